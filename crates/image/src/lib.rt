@@ -1,0 +1,2 @@
+// The image file of a disk (01 Image).
+pub mod slot;
