@@ -1,0 +1,5 @@
+pub mod Commands
+pub mod Fifo
+pub mod Next
+pub mod Refusals
+pub mod Stepping
