@@ -1,11 +1,12 @@
 -- The FIFO and its request: document 01, FIFO and request; "TC empties the FIFO; no byte follows" of Read. Who fills and
 -- draws it in which tick is said where the command is at work.
 -- Assumes nothing.
-use Prim.Native.Nat.{ℕ, _+_, _-_, max}
+use mathlib.Core.Path.{_≡_}
+use Prim.Native.Nat.{ℕ, _+_, _-_, _≤_, max}
 use mathlib.Core.Bool.{Bool, true, false, _&&_, _||_, not, cond}
 use mathlib.Core.List.{List, [], _∷_, _++_}
 use lib.Dec.{leb, ltb}
-use lib.ListN.{getD, set, take, drop, replicate}
+use lib.ListN.{length, getD, set, take, drop, replicate}
 use Rattle.chip.specs.declared.fifo.Fifo.{Fifo}
 
 -- 01 FIFO: capacity 16, or 1 with EFIFO 1
@@ -78,3 +79,13 @@ drawnOf efifo fifothr f =
     (not (f .tc) && (f .asks || leb (f .count - 1) (writeLevel efifo fifothr) && ltb (f .count - 1) (capacityOf efifo)))
     (f .tc)
     (poppedOf f)
+
+-- 01 Refusals 4: what a FIFO in a record that is not damaged keeps to
+pub record Fits (efifo : Bool) (f : Fifo) : Type 0 where
+  pub sixteen : length (f .bytes) ≡ 16
+  pub within : f .count ≤ capacityOf efifo
+
+-- 01 FIFO: TC has come and the request is off
+pub record Over (f : Fifo) : Type 0 where
+  pub tc : f .tc ≡ true
+  pub quiet : f .asks ≡ false

@@ -1,4 +1,5 @@
 pub mod Commands
+pub mod Examples
 pub mod Fifo
 pub mod Next
 pub mod Refusals
