@@ -8,8 +8,8 @@ use native.Mathlib.Omega.{arith}
 use native.Mathlib.Numerals.{add-one}
 use borrow.Author.Tests.{leb-false, le-leb, lt-leb, lt-ltb, le-ltb}
 use lib.Dec.{leb, ltb}
-use lib.ListN.{length, getD, take, drop, length-set, length-append, length-drop}
-use lib.Seq.{drop-cons, take-suc-set, take-append-le}
+use lib.ListN.{length, getD, set, take, drop, replicate, length-set, length-append, length-drop, take-append-drop, replicate-append-replicate}
+use lib.Seq.{length-take-le, take-suc-set, take-append-le, drop-append-le, drop-set-lt, drop-drop}
 use Rattle.chip.specs.declared.fifo.Fifo.{Fifo}
 use Rattle.chip.specs.Fifo.{capacityOf, readLevel, writeLevel, fullOf, held, frontOf, emptied, flagged, pushedOf, poppedOf, filledOf, takenOf, openedOf, givenOf, drawnOf, Fits, Over}
 use Rattle.chip.proofs.TestLaws.{by-test, or-right}
@@ -160,25 +160,49 @@ pub over-drawn : (efifo : Bool) (fifothr : ℕ) (f : Fifo) → Over f → Over (
 unfolding drawnOf
 over-drawn efifo fifothr f o = record { tc = o .tc; quiet = simp (o .tc) }
 
--- The count is never above the capacity, and the array keeps its sixteen.
+-- The count is never above the capacity, the array keeps its sixteen, and past the count stand zeros.
+
+capacity-most : (efifo : Bool) → capacityOf efifo ≤ 16
+capacity-most true = omega arith
+capacity-most false = omega arith
+
+past-pushed : (byte n : ℕ) (l : List ℕ) → n < 16 → drop n l ≡ replicate (16 - n) 0
+    → drop (n + 1) (set l n byte) ≡ replicate (16 - (n + 1)) 0
+past-pushed byte n l h e =
+    let m : 16 - n ≡ suc (16 - (n + 1)) = omega arith in
+    drop-set-lt (n + 1) l n byte (omega arith)
+    ∙ sym (drop-drop 1 n l)
+    ∙ ap (drop 1) (e ∙ ap (λ (k : ℕ). replicate k 0) m)
+
+past-popped : (n : ℕ) (l : List ℕ) → length l ≡ 16 → n ≤ 16 → drop n l ≡ replicate (16 - n) 0
+    → drop (n - 1) (drop 1 l ++ (0 ∷ [])) ≡ replicate (16 - (n - 1)) 0
+past-popped zero l h b e = ap (λ (r : List ℕ). drop 1 r ++ (0 ∷ [])) e
+past-popped (suc m) l h b e =
+    let s : 1 + m ≡ suc m = omega arith in
+    let t : 16 - suc m + 1 ≡ 16 - m = omega arith in
+    let u : suc m - 1 ≡ m = omega arith in
+    rw (u, drop-append-le m (drop 1 l) (0 ∷ []) (omega (arith, length-drop 1 l)), drop-drop m 1 l, s, e, ← t)
+    (replicate-append-replicate (16 - suc m) 1 0)
 
 fits-flagged : (efifo asks tc : Bool) (f : Fifo) → Fits efifo f → Fits efifo (flagged asks tc f)
-fits-flagged efifo asks tc f p = record { sixteen = p .sixteen; within = p .within }
+fits-flagged efifo asks tc f p = record { sixteen = p .sixteen; within = p .within; past = p .past }
 
 fits-pushed : (efifo : Bool) (byte : ℕ) (f : Fifo) → fullOf efifo f ≡ false → Fits efifo f → Fits efifo (pushedOf byte f)
 fits-pushed efifo byte f room p = record {
   sixteen = length-set (f .bytes) (f .count) byte ∙ p .sixteen;
   within = omega (arith, leb-false (capacityOf efifo) (f .count) room);
+  past = past-pushed byte (f .count) (f .bytes) (room-left efifo (f .count) room) (p .past);
 }
 
 fits-popped : (efifo : Bool) (f : Fifo) → Fits efifo f → Fits efifo (poppedOf f)
 fits-popped efifo f p = record {
   sixteen = simp (length-append, length-drop) (omega (arith, p .sixteen));
   within = omega (arith, p .within);
+  past = past-popped (f .count) (f .bytes) (p .sixteen) (omega (arith, p .within, capacity-most efifo)) (p .past);
 }
 
 pub fits-emptied : (efifo : Bool) → Fits efifo emptied
-fits-emptied efifo = record { sixteen = refl; within = omega arith }
+fits-emptied efifo = record { sixteen = refl; within = omega arith; past = refl }
 
 pub fits-filled : (efifo : Bool) (fifothr : ℕ) (last : Bool) (byte : ℕ) (f : Fifo)
     → Fits efifo f → Fits efifo (filledOf efifo fifothr last byte f)
@@ -204,3 +228,19 @@ fits-given efifo tc byte f p =
 pub fits-drawn : (efifo : Bool) (fifothr : ℕ) (f : Fifo) → Fits efifo f → Fits efifo (drawnOf efifo fifothr f)
 unfolding drawnOf
 fits-drawn efifo fifothr f p = fits-flagged efifo _ _ _ (fits-popped efifo f p)
+
+-- FIFOs that hold the same bytes and have the same request are the same
+pub held-tells : (efifo : Bool) (f g : Fifo)
+    → Fits efifo f → Fits efifo g → held f ≡ held g → f .asks ≡ g .asks → f .tc ≡ g .tc → f ≡ g
+held-tells efifo f g p q e asks tc =
+    let m : capacityOf efifo ≤ 16 = capacity-most efifo in
+    let n : f .count ≡ g .count =
+    sym (length-take-le (f .count) (f .bytes) (omega (arith, p .sixteen, p .within)))
+    ∙ ap length e
+    ∙ length-take-le (g .count) (g .bytes) (omega (arith, q .sixteen, q .within)) in
+    let z : drop (f .count) (f .bytes) ≡ drop (g .count) (g .bytes) =
+    p .past ∙ ap (λ (k : ℕ). replicate (16 - k) 0) n ∙ sym (q .past) in
+    let b : f .bytes ≡ g .bytes =
+    sym (take-append-drop (f .count) (f .bytes)) ∙ rw (e, z) (take-append-drop (g .count) (g .bytes)) in
+    let r : f ≡ record { bytes = g .bytes; count = g .count; asks = g .asks; tc = g .tc } = rw (← b, ← n, ← asks, ← tc) in
+    r
