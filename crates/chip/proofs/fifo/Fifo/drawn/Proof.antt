@@ -1,0 +1,16 @@
+-- `chip::fifo::Fifo::drawn` meets its contract (01 FIFO).
+-- Assumes nothing.
+use mathlib.Core.Path.{_∙_}
+use borrow.Author.Needs.{needs}
+use Rattle.chip.specs.Fifo.{drawnOf}
+use Rattle.chip.proofs.fifo.Fifo.drawn.Statement.{statement}
+use Rattle.chip.proofs.fifo.Fifo.drawn.Tie as tie
+
+pub drawn-spec : {M : Type 1} → statement M
+unfolding drawnOf
+drawn-spec =
+    tie.close
+    (tie.spec
+    (λ c κs. search needs) (λ c. search needs) (λ c κs. search needs) (λ c κs. search needs)
+    (λ c κs. search needs)
+    (λ c. c .flagged .ensures ∙ rw (c .before .before .before .before .capacity .ensures, c .before .before .before .before .before .write-level .ensures, c .before .before .before .before .before .before .before .popped .ensures)))

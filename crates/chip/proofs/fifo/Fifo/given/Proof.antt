@@ -1,0 +1,19 @@
+-- `chip::fifo::Fifo::given` meets its contract (01 FIFO): the test that led to each `return` is that of `givenOf`.
+-- Assumes nothing.
+use mathlib.Core.Path.{_∙_, sym}
+use borrow.Author.Needs.{needs}
+use Rattle.chip.specs.Fifo.{givenOf}
+use Rattle.chip.proofs.FifoLaws.{room-left}
+use Rattle.chip.proofs.fifo.Fifo.given.Statement.{statement}
+use Rattle.chip.proofs.fifo.Fifo.given.Tie as tie
+
+pub given-spec : {M : Type 1} → statement M
+unfolding givenOf
+given-spec =
+    tie.close
+    (tie.spec
+    (λ c κs. search needs)
+    (λ c. rw (← c .before .full .ensures, c .if1 .taken))
+    (λ c κs. let a = c .before .before .args in room-left (a .efifo) (a .self .count) (sym (c .before .full .ensures) ∙ c .if1 .left))
+    (λ c κs. search needs) (λ c κs. search needs)
+    (λ c. rw (← c .before .before .before .before .before .before .before .full .ensures, c .before .before .before .before .before .before .if1 .left) (c .flagged .ensures ∙ rw (c .before .before .before .capacity .ensures, c .before .before .before .before .before .pushed .ensures))))

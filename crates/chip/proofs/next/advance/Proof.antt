@@ -1,0 +1,16 @@
+-- `chip::next::advance` meets its contract (01 Next, Result): the one test is that of `advancedOf`.
+-- Assumes nothing.
+use borrow.Author.Needs.{needs}
+use Rattle.chip.specs.Next.{advancedOf}
+use Rattle.chip.proofs.next.advance.Statement.{statement}
+use Rattle.chip.proofs.next.advance.Tie as tie
+
+pub advance-spec : {M : Type 1} → statement M
+unfolding advancedOf
+advance-spec =
+    tie.close
+    (tie.spec
+    (λ c κs. search needs) (λ c κs. search needs) (λ c κs. search needs) (λ c κs. search needs)
+    (λ c. rw (c .before .before .before .before .if1 .taken, c .either2 .ensures, c .before .turned-byte .ensures, c .before .before .either .ensures, c .before .before .before .after-byte .ensures))
+    (λ c κs. search needs)
+    (λ c. rw (c .before .if1 .left, c .after-byte2 .ensures)))
