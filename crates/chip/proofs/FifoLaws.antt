@@ -12,7 +12,7 @@ use lib.ListN.{length, getD, set, take, drop, replicate, length-set, length-appe
 use lib.Seq.{length-take-le, take-suc-set, take-append-le, drop-append-le, drop-set-lt, drop-drop}
 use Rattle.chip.specs.declared.fifo.Fifo.{Fifo}
 use Rattle.chip.specs.Fifo.{capacityOf, readLevel, writeLevel, fullOf, held, frontOf, emptied, flagged, pushedOf, poppedOf, filledOf, takenOf, openedOf, givenOf, drawnOf, Fits, Over}
-use Rattle.chip.proofs.TestLaws.{by-test, or-right}
+use Rattle.image.proofs.TestLaws.{by-test, or-right}
 
 -- a FIFO that is not full has a place left among the sixteen
 pub room-left : (efifo : Bool) (n : ℕ) → leb (capacityOf efifo) n ≡ false → n < 16

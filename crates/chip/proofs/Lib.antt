@@ -5,4 +5,3 @@ pub mod NextLaws
 pub mod RefusalLaws
 pub mod StepLaws
 pub mod TableLaws
-pub mod TestLaws

@@ -10,7 +10,7 @@ use Rattle.image.specs.declared.slot.Id.{Id}
 use Rattle.chip.specs.declared.next.Next.{Next}
 use Rattle.chip.specs.declared.next.Next.the-variants.{Ended, PastEot, OtherSide, SameSide}
 use Rattle.chip.specs.Next.{nextOf, advancedOf, addressOf, after, turned}
-use Rattle.chip.proofs.TestLaws.{by-test}
+use Rattle.image.proofs.TestLaws.{by-test}
 
 module _ (id : Id) (eot : ℕ) (mt : Bool) (side : ℕ) where
   -- 01 Result: below EOT R alone moves, FF to 00

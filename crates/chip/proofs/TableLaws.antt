@@ -2,17 +2,13 @@
 -- step times go by `at`, an array literal of an array's elements by `listed-drop`.
 -- Assumes nothing.
 use mathlib.Core.Path.{_≡_, _∙_, ap, sym}
-use mathlib.Core.List.{List, [], _∷_}
+use mathlib.Core.List.{List}
 use Prim.Native.Nat.{ℕ, zero, suc, _+_, _<_}
 use native.Mathlib.Nat.{add-zero, zero-add, add-suc, suc-add, le-of-suc-le-suc, not-suc-le-zero}
 use native.Mathlib.Omega.{arith}
-use lib.ListN.{length, getD, drop, drop-of-length-le}
-use lib.Seq.{drop-cons}
-
--- the values of f at n places from i on
-abbrev pub listed : (ℕ → ℕ) → ℕ → ℕ → List ℕ
-listed f i zero = []
-listed f i (suc n) = f i ∷ listed f (suc i) n
+use Rattle.image.proofs.ListLaws.{listed, listed-part}
+use lib.ListN.{length, getD, drop, length-drop}
+use lib.Seq.{take-all}
 
 from : (f : ℕ → ℕ) (n i k : ℕ) → k < n → getD (listed f i n) k 0 ≡ f (i + k)
 from f zero i k h = absurd (not-suc-le-zero h)
@@ -24,6 +20,5 @@ at f n k h = from f n 0 k h ∙ ap f (zero-add k)
 
 -- the elements from i to the end, written out, are the list without its first i
 pub listed-drop : (l : List ℕ) (n i : ℕ) → length l ≡ i + n → listed (λ k. getD l k 0) i n ≡ drop i l
-listed-drop l zero i h = sym (drop-of-length-le l {i = i} (omega arith))
-listed-drop l (suc n) i h =
-    ap (λ (r : List ℕ). getD l i 0 ∷ r) (listed-drop l n (suc i) (omega arith)) ∙ sym (drop-cons l i 0 (omega arith))
+listed-drop l n i h =
+    listed-part l n i (omega arith) ∙ take-all n (drop i l) (omega (arith, length-drop i l))

@@ -4,7 +4,7 @@
 use Prim.Native.Nat.{ℕ, _+_, _*_, _^_, _≤_, _<_}
 use native.Mathlib.Nat.{mod-eq-of-lt}
 use native.Mathlib.Omega.{arith}
-use mathlib.Core.Bool.{Bool, true, false, cond, _&&_, false≢true}
+use mathlib.Core.Bool.{Bool, true, false, _&&_}
 use mathlib.Core.List.{List}
 use mathlib.Core.Path.{_≡_, refl, sym, ap, _∙_}
 use lib.Dec.{eqb, leb}
@@ -17,17 +17,8 @@ use Rattle.image.specs.declared.disk.Disk.the-variants.{Absent, Present}
 use Rattle.image.specs.Layout.{sizeOf, slotLength, trackLength, lengthOf}
 use Rattle.image.specs.Disk.{within, inRange, headerIn, geometryIn, diskIn, flag, headerOf, InRange, Fits}
 use Rattle.image.proofs.LayoutLaws.{product-le, size-le, length-ge}
-use Rattle.image.proofs.ListLaws.{listed, take-listed}
-
--- both halves of a test that is true
-pub both : (a b : Bool) → (a && b) ≡ true → (a ≡ true) × (b ≡ true)
-both true b h = (refl, h)
-both false b h = absurd (false≢true h)
-
--- a property of a choice, from both of its sides
-pub by-test : {A : Type 0} (t : Bool) (P : A → Type 0) (x y : A) → (t ≡ true → P x) → (t ≡ false → P y) → P (cond t x y)
-by-test true P x y f g = f refl
-by-test false P x y f g = g refl
+use Rattle.image.proofs.ListLaws.{listed-part}
+use Rattle.image.proofs.TestLaws.{by-test, both}
 
 within-true : (low x high : ℕ) → within low x high ≡ true → (low ≤ x) × (x ≤ high)
 within-true low x high h =
@@ -78,7 +69,7 @@ module _ (img : List ℕ) (h : headerIn img ≡ true) where
   unfolding geometryIn
   first-eight l =
       let ((t0, t1, t2), _, p) = header-parts in
-      take-listed 8 0 img (omega arith) ∙ rw (t0, t1, t2, ← one-or-none (getD img 7 0) p)
+      sym (listed-part img 8 0 (omega arith)) ∙ rw (t0, t1, t2, ← one-or-none (getD img 7 0) p)
 
 -- 01 Image mounted: an answer with a disk is right
 pub present-fits : (img : List ℕ) (g : Geometry) → diskIn img ≡ Present g → Fits g img

@@ -4,3 +4,4 @@ pub mod LayoutLaws
 pub mod ListLaws
 pub mod MarkLaws
 pub mod StoreLaws
+pub mod TestLaws

@@ -7,15 +7,16 @@ use mathlib.Core.Path.{_≡_, refl, ap, sym, _∙_}
 use lib.ListN.{length, getD, take, drop, set}
 use lib.Seq.{drop-cons, drop-set-lt, drop-set-add, take-set-le}
 
--- k elements from i on, written out
-abbrev pub listed : ℕ → ℕ → List ℕ → List ℕ
-listed zero i l = []
-listed (suc k) i l = getD l i 0 ∷ listed k (suc i) l
+-- the values of f at n places from i on
+abbrev pub listed : (ℕ → ℕ) → ℕ → ℕ → List ℕ
+listed f i zero = []
+listed f i (suc n) = f i ∷ listed f (suc i) n
 
-pub take-listed : (k i : ℕ) (l : List ℕ) → i + k ≤ length l → take k (drop i l) ≡ listed k i l
-take-listed zero i l h = refl
-take-listed (suc k) i l h =
-    rw (drop-cons l i 0 (omega arith)) (ap (λ (r : List ℕ). getD l i 0 ∷ r) (take-listed k (suc i) l (omega arith)))
+-- n elements of a list from i on, written out, are that part of it
+pub listed-part : (l : List ℕ) (n i : ℕ) → i + n ≤ length l → listed (λ k. getD l k 0) i n ≡ take n (drop i l)
+listed-part l zero i h = refl
+listed-part l (suc n) i h =
+    rw (drop-cons l i 0 (omega arith)) (ap (λ (r : List ℕ). getD l i 0 ∷ r) (listed-part l n (suc i) (omega arith)))
 
 -- a store outside of a part leaves the part
 pub part-set : (l : List ℕ) (n m i b : ℕ) → (i < m) ⊎ (m + n ≤ i) → take n (drop m (set l i b)) ≡ take n (drop m l)

@@ -13,8 +13,9 @@ use Rattle.image.specs.declared.lent.Effect.the-variants.{Nothing, Store
 use Rattle.image.specs.Layout.{slotLength, offsetOf, Has, InSlot}
 use Rattle.image.specs.Lent.{storedIn}
 use Rattle.image.specs.Slot.{slotAt, slotBytes}
-use Rattle.image.proofs.LayoutLaws.{le-or-lt, slots-share-nothing}
+use Rattle.image.proofs.LayoutLaws.{slots-share-nothing}
 use Rattle.image.proofs.ListLaws.{part-set}
+use Rattle.image.proofs.TestLaws.{le-or-lt}
 
 -- the length stays
 pub effect-length : (e : Effect) (img : List ℕ) → length (storedIn e img) ≡ length img

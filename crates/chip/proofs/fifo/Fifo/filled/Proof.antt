@@ -4,7 +4,7 @@ use mathlib.Core.Path.{_∙_, sym}
 use borrow.Author.Needs.{needs}
 use Rattle.chip.specs.Fifo.{filledOf}
 use Rattle.chip.proofs.FifoLaws.{room-left}
-use Rattle.chip.proofs.TestLaws.{or-right}
+use Rattle.image.proofs.TestLaws.{or-right}
 use Rattle.chip.proofs.fifo.Fifo.filled.Statement.{statement}
 use Rattle.chip.proofs.fifo.Fifo.filled.Tie as tie
 
