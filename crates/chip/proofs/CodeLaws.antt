@@ -4,12 +4,15 @@ use mathlib.Core.Path.{_≡_, refl, ap}
 use Prim.Native.Nat.{ℕ, _/_, _%_, _≤_}
 use native.Mathlib.Omega.{arith}
 use Rattle.chip.specs.declared.codes.Kind.{Kind}
-use Rattle.chip.specs.declared.codes.Kind.the-variants.{Unknown, ReadData, ReadDeleted, WriteData, WriteDeleted, ReadId, Format, Recalibrate, SenseInterrupt, Specify, SenseDrive, Seek, Version, Configure}
+use Rattle.chip.specs.declared.codes.Kind.the-variants.{Unknown, ReadData, ReadDeleted, WriteData, WriteDeleted, ReadId, Format}
+use Rattle.chip.specs.declared.codes.Kind.the-variants.{Recalibrate, SenseInterrupt, Specify, SenseDrive, Seek, Version, Configure}
 use Rattle.chip.specs.declared.codes.Entry.{Entry}
 use Rattle.chip.specs.Commands.{kindOf, bytesOf, kindNumbered, lineOf, entryOf, knownBelow}
 
 -- a line of the table says its kind and its byte count
-pub line-read : (k : Kind) → _≡_ {A = Entry} (record { kind = kindNumbered (lineOf k / 10); bytes = lineOf k % 10 }) (record { kind = k; bytes = bytesOf k })
+pub line-read : (k : Kind)
+    → _≡_ {A = Entry} (record { kind = kindNumbered (lineOf k / 10); bytes = lineOf k % 10 })
+    (record { kind = k; bytes = bytesOf k })
 unfolding kindNumbered
 line-read Unknown = refl
 line-read ReadData = refl

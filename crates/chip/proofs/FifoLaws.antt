@@ -8,10 +8,12 @@ use native.Mathlib.Omega.{arith}
 use native.Mathlib.Numerals.{add-one}
 use borrow.Author.Tests.{leb-false, le-leb, lt-leb, lt-ltb, le-ltb}
 use lib.Dec.{leb, ltb}
-use lib.ListN.{length, getD, set, take, drop, replicate, length-set, length-append, length-drop, take-append-drop, replicate-append-replicate}
+use lib.ListN.{length, getD, set, take, drop, replicate}
+use lib.ListN.{length-set, length-append, length-drop, take-append-drop, replicate-append-replicate}
 use lib.Seq.{length-take-le, take-suc-set, take-append-le, drop-append-le, drop-set-lt, drop-drop}
 use Rattle.chip.specs.declared.fifo.Fifo.{Fifo}
-use Rattle.chip.specs.Fifo.{capacityOf, readLevel, writeLevel, fullOf, held, frontOf, emptied, flagged, pushedOf, poppedOf, filledOf, takenOf, openedOf, givenOf, drawnOf, Fits, Over}
+use Rattle.chip.specs.Fifo.{capacityOf, readLevel, writeLevel, fullOf, held, frontOf, emptied, flagged, Fits, Over}
+use Rattle.chip.specs.Fifo.{pushedOf, poppedOf, filledOf, takenOf, openedOf, givenOf, drawnOf}
 use Rattle.image.proofs.TestLaws.{by-test, or-right}
 
 -- a FIFO that is not full has a place left among the sixteen
@@ -102,7 +104,8 @@ module _ (efifo tc : Bool) (byte : ℕ) (f : Fifo) (room : fullOf efifo f ≡ fa
   unfolding givenOf
   given-full-quiet h = simp (room, le-ltb _ _ h, and-false)
 
-  pub given-asks-stays : f .asks ≡ true → tc ≡ false → f .count + 1 < capacityOf efifo → givenOf efifo tc byte f .asks ≡ true
+  pub given-asks-stays : f .asks ≡ true → tc ≡ false → f .count + 1 < capacityOf efifo
+      → givenOf efifo tc byte f .asks ≡ true
   unfolding givenOf
   given-asks-stays on e h = simp (room, on, e, lt-ltb _ _ h)
 
@@ -119,7 +122,8 @@ module _ (efifo : Bool) (fifothr : ℕ) (f : Fifo) (going : f .tc ≡ false) whe
   unfolding drawnOf
   drawn-asks-again h k = simp (going, le-leb _ _ h, lt-ltb _ _ k, or-true)
 
-  pub drawn-quiet-above : f .asks ≡ false → writeLevel efifo fifothr < f .count - 1 → drawnOf efifo fifothr f .asks ≡ false
+  pub drawn-quiet-above : f .asks ≡ false → writeLevel efifo fifothr < f .count - 1
+      → drawnOf efifo fifothr f .asks ≡ false
   unfolding drawnOf
   drawn-quiet-above off h = simp (going, off, lt-leb _ _ h)
 
@@ -187,7 +191,8 @@ past-popped (suc m) l h b e =
 fits-flagged : (efifo asks tc : Bool) (f : Fifo) → Fits efifo f → Fits efifo (flagged asks tc f)
 fits-flagged efifo asks tc f p = record { sixteen = p .sixteen; within = p .within; past = p .past }
 
-fits-pushed : (efifo : Bool) (byte : ℕ) (f : Fifo) → fullOf efifo f ≡ false → Fits efifo f → Fits efifo (pushedOf byte f)
+fits-pushed : (efifo : Bool) (byte : ℕ) (f : Fifo)
+    → fullOf efifo f ≡ false → Fits efifo f → Fits efifo (pushedOf byte f)
 fits-pushed efifo byte f room p = record {
   sixteen = length-set (f .bytes) (f .count) byte ∙ p .sixteen;
   within = omega (arith, leb-false (capacityOf efifo) (f .count) room);
@@ -242,5 +247,6 @@ held-tells efifo f g p q e asks tc =
     p .past ∙ ap (λ (k : ℕ). replicate (16 - k) 0) n ∙ sym (q .past) in
     let b : f .bytes ≡ g .bytes =
     sym (take-append-drop (f .count) (f .bytes)) ∙ rw (e, z) (take-append-drop (g .count) (g .bytes)) in
-    let r : f ≡ record { bytes = g .bytes; count = g .count; asks = g .asks; tc = g .tc } = rw (← b, ← n, ← asks, ← tc) in
+    let r : f ≡ record { bytes = g .bytes; count = g .count; asks = g .asks; tc = g .tc } =
+    rw (← b, ← n, ← asks, ← tc) in
     r

@@ -32,7 +32,8 @@ module _ (id : Id) (eot : ℕ) (mt : Bool) (side : ℕ) where
   -- 01 Result: MT on side 0 keeps C
   pub advanced-c-kept : mt ≡ true → side ≡ 0 → advancedOf id eot mt side .c ≡ id .c
   unfolding advancedOf
-  advanced-c-kept e z = by-test (eqb (id .r) eot) (λ (a : Id). a .c ≡ id .c) _ _ (λ t. simp (e, eq-eqb _ _ z)) (λ t. refl)
+  advanced-c-kept e z =
+      by-test (eqb (id .r) eot) (λ (a : Id). a .c ≡ id .c) _ _ (λ t. simp (e, eq-eqb _ _ z)) (λ t. refl)
 
   -- 01 Next: at EOT MT turns H, and without MT H stays
   pub advanced-h-turned : id .r ≡ eot → mt ≡ true → advancedOf id eot mt side .h ≡ turned (id .h)

@@ -4,7 +4,8 @@ use Prim.Native.Nat.{ℕ, zero, suc, _+_, _*_, _/_, _%_}
 use mathlib.Core.Bool.{Bool, _||_, not, cond}
 use lib.Dec.{eqb}
 use Rattle.chip.specs.declared.codes.Kind.{Kind}
-use Rattle.chip.specs.declared.codes.Kind.the-variants.{Unknown, ReadData, ReadDeleted, WriteData, WriteDeleted, ReadId, Format, Recalibrate, SenseInterrupt, Specify, SenseDrive, Seek, Version, Configure}
+use Rattle.chip.specs.declared.codes.Kind.the-variants.{Unknown, ReadData, ReadDeleted, WriteData, WriteDeleted, ReadId, Format}
+use Rattle.chip.specs.declared.codes.Kind.the-variants.{Recalibrate, SenseInterrupt, Specify, SenseDrive, Seek, Version, Configure}
 use Rattle.chip.specs.declared.codes.Entry.{Entry}
 
 -- 01 Commands: the codes in the document's order; any other, MFM 0 too, is unknown

@@ -1,5 +1,5 @@
--- Document 01, Checked examples, rows 1, 2, 5 and 6: one statement, a field for each value. The other rows are those of the
--- crates whose rules they are.
+-- Document 01, Checked examples, rows 1, 2, 5 and 6: one statement, a field for each value. The other rows are stated
+-- where their rules are.
 -- Assumes nothing.
 use mathlib.Core.Path.{_≡_}
 use mathlib.Core.Bool.{true, false}

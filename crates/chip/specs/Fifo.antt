@@ -1,5 +1,5 @@
--- The FIFO and its request: document 01, FIFO and request; "TC empties the FIFO; no byte follows" of Read. Who fills and
--- draws it in which tick is said where the command is at work.
+-- The FIFO and its request: document 01, FIFO and request; "TC empties the FIFO; no byte follows" of Read. Who fills
+-- and draws it in which tick is said where the command is at work.
 -- Assumes nothing.
 use mathlib.Core.Path.{_≡_}
 use Prim.Native.Nat.{ℕ, _+_, _-_, _≤_, max}
@@ -21,6 +21,7 @@ readLevel efifo fifothr = cond efifo 1 (max 1 (16 - (fifothr + 1)))
 abbrev pub writeLevel : Bool → ℕ → ℕ
 writeLevel efifo fifothr = cond efifo 0 (fifothr + 1)
 
+-- 01 FIFO: full is at the capacity; a damaged count above it is full too
 abbrev pub fullOf : Bool → Fifo → Bool
 fullOf efifo f = leb (capacityOf efifo) (f .count)
 
@@ -32,6 +33,7 @@ withinOf efifo f = leb (f .count) (capacityOf efifo)
 abbrev pub held : Fifo → List ℕ
 held f = take (f .count) (f .bytes)
 
+-- the oldest byte
 abbrev pub frontOf : Fifo → ℕ
 frontOf f = getD (f .bytes) 0 0
 
@@ -39,6 +41,7 @@ frontOf f = getD (f .bytes) 0 0
 abbrev pub emptied : Fifo
 emptied = record { bytes = replicate 16 0; count = 0; asks = false; tc = false }
 
+-- the same bytes with this request and TC
 abbrev pub flagged : Bool → Bool → Fifo → Fifo
 flagged asks tc f = record { bytes = f .bytes; count = f .count; asks = asks; tc = tc }
 

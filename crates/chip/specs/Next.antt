@@ -1,5 +1,5 @@
--- The sector after this one: document 01, Data commands, "Next", and of "Result" the address where Next ends the command.
--- The status bytes of each end are said where the result is made.
+-- The sector after this one: document 01, Data commands, "Next", and of "Result" the address where Next ends the
+-- command. The status bytes of each end are said where the result is made.
 -- Assumes nothing.
 use Prim.Native.Nat.{ℕ, _+_, _-_, _*_, _/_, _%_}
 use mathlib.Core.Bool.{Bool, _&&_, cond}
@@ -29,8 +29,8 @@ advancedOf id eot mt side =
     })
     (record { c = id .c; h = id .h; r = after (id .r); n = id .n })
 
--- 01 Next, read from the top: TC ends normally; else EOT ends with ST1 80, or with MT on side 0 turns over; else one on.
--- Each case carries the next address
+-- 01 Next, read from the top: TC ends normally; else EOT ends with ST1 80, or with MT on side 0 turns over; else one
+-- on. Each case carries the next address
 unfoldable pub nextOf : Id → ℕ → Bool → ℕ → Bool → Next
 nextOf id eot mt side tc =
     cond tc (Ended (advancedOf id eot mt side))

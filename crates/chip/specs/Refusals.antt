@@ -1,5 +1,5 @@
--- Which number each refusal has: document 01, Refusals by number. The enum's order means nothing; this does. When each is
--- given is said by the calls.
+-- Which number each refusal has: document 01, Refusals by number. The enum's order means nothing; this does. When each
+-- is given is said by the calls.
 -- Assumes nothing.
 use Prim.Native.Nat.{ℕ}
 use Rattle.chip.specs.declared.refusal.Refusal.{Refusal}

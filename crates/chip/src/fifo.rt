@@ -1,4 +1,4 @@
-// The FIFO and its request (01 FIFO). What it holds is the first `count` of `bytes`, the oldest first; past them stand zeros.
+// The FIFO and its request (01 FIFO). It holds the first `count` of `bytes`, the oldest first; past them stand zeros.
 ghost use mathlib.Core.Path.{_≡_};
 ghost use Prim.Native.Nat.{_-_, _<_};
 ghost use Rattle.chip.specs.Fifo.{
@@ -49,7 +49,6 @@ fn write_level(efifo: bool, fifothr: u8) -> u16
     if efifo { 0 } else { fifothr as u16 + 1 }
 }
 
-// None below none.
 fn one_less(n: u8) -> u8
     ensures { λ r. ⌜ r ≡ n - 1 ⌝ }
 {
@@ -81,7 +80,7 @@ impl Fifo {
         self.count <= capacity(efifo)
     }
 
-    // The oldest byte, 0 where there is none.
+    // The oldest byte held.
     pub fn front(self) -> u8
         ensures { λ r. ⌜ r ≡ frontOf self ⌝ }
     {

@@ -12,4 +12,5 @@ entry-at-spec =
     tie.close
     (tie.spec
     (λ c κs. search needs) (λ c κs. search needs)
-    (λ c. rw (c .kind-numbered .ensures, c .before .line-at .ensures) (line-read (kindOf (c .before .before .args .code)))))
+    (λ c. rw (c .kind-numbered .ensures, c .before .line-at .ensures)
+    (line-read (kindOf (c .before .before .args .code)))))

@@ -1,4 +1,5 @@
--- `chip::codes::kind_numbered` meets its contract: one arm for each line of `kindNumbered`, and one for what is none of them.
+-- `chip::codes::kind_numbered` meets its contract: one arm for each line of `kindNumbered`, and one for what is
+-- none of them.
 -- Assumes nothing.
 use borrow.Author.Tests.{ne-eqb}
 use Rattle.chip.specs.Commands.{kindNumbered}
@@ -23,4 +24,19 @@ kind-numbered-spec =
     (λ c. rw (c .match .keys11))
     (λ c. rw (c .match .keys12))
     (λ c. rw (c .match .keys13))
-    (λ c. let r = c .match .rest in simp (ne-eqb _ _ (r .1), ne-eqb _ _ (r .0 .1), ne-eqb _ _ (r .0 .0 .1), ne-eqb _ _ (r .0 .0 .0 .1), ne-eqb _ _ (r .0 .0 .0 .0 .1), ne-eqb _ _ (r .0 .0 .0 .0 .0 .1), ne-eqb _ _ (r .0 .0 .0 .0 .0 .0 .1), ne-eqb _ _ (r .0 .0 .0 .0 .0 .0 .0 .1), ne-eqb _ _ (r .0 .0 .0 .0 .0 .0 .0 .0 .1), ne-eqb _ _ (r .0 .0 .0 .0 .0 .0 .0 .0 .0 .1), ne-eqb _ _ (r .0 .0 .0 .0 .0 .0 .0 .0 .0 .0 .1), ne-eqb _ _ (r .0 .0 .0 .0 .0 .0 .0 .0 .0 .0 .0 .1), ne-eqb _ _ (r .0 .0 .0 .0 .0 .0 .0 .0 .0 .0 .0 .0 .1))))
+    (λ c. let past-13 = c .match .rest in let past-8 = past-13 .0 .0 .0 .0 .0 in let past-4 = past-8 .0 .0 .0 .0 in
+    simp (
+      ne-eqb _ _ (past-13 .1),
+      ne-eqb _ _ (past-13 .0 .1),
+      ne-eqb _ _ (past-13 .0 .0 .1),
+      ne-eqb _ _ (past-13 .0 .0 .0 .1),
+      ne-eqb _ _ (past-13 .0 .0 .0 .0 .1),
+      ne-eqb _ _ (past-8 .1),
+      ne-eqb _ _ (past-8 .0 .1),
+      ne-eqb _ _ (past-8 .0 .0 .1),
+      ne-eqb _ _ (past-8 .0 .0 .0 .1),
+      ne-eqb _ _ (past-4 .1),
+      ne-eqb _ _ (past-4 .0 .1),
+      ne-eqb _ _ (past-4 .0 .0 .1),
+      ne-eqb _ _ (past-4 .0 .0 .0 .1),
+    )))

@@ -1,4 +1,5 @@
--- `chip::codes::line_at` meets its contract (01 Commands): the rule is computed at all 256 codes and compared with the table.
+-- `chip::codes::line_at` meets its contract (01 Commands): the rule is computed at all 256 codes and compared
+-- with the table.
 -- Assumes nothing.
 use borrow.Author.Needs.{needs}
 use Rattle.chip.specs.Commands.{kindOf, lineOf}

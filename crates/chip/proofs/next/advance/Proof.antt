@@ -11,6 +11,13 @@ advance-spec =
     tie.close
     (tie.spec
     (λ c κs. search needs) (λ c κs. search needs) (λ c κs. search needs) (λ c κs. search needs)
-    (λ c. rw (c .before .before .before .before .if1 .taken, c .either2 .ensures, c .before .turned-byte .ensures, c .before .before .either .ensures, c .before .before .before .after-byte .ensures))
+    (λ c. let at-c = c .before .before in
+    rw (
+      at-c .before .before .if1 .taken,
+      c .either2 .ensures,
+      c .before .turned-byte .ensures,
+      at-c .either .ensures,
+      at-c .before .after-byte .ensures,
+    ))
     (λ c κs. search needs)
     (λ c. rw (c .before .if1 .left, c .after-byte2 .ensures)))

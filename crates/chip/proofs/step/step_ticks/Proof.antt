@@ -1,4 +1,5 @@
--- `chip::step::step_ticks` meets its contract (01 Stepping): the rule is computed at all sixteen places and compared with the table.
+-- `chip::step::step_ticks` meets its contract (01 Stepping): the rule is computed at all sixteen places and
+-- compared with the table.
 -- Assumes nothing.
 use Prim.Native.Nat.{_/_}
 use borrow.Author.Needs.{needs}

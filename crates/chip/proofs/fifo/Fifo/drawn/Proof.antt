@@ -13,4 +13,6 @@ drawn-spec =
     (tie.spec
     (λ c κs. search needs) (λ c. search needs) (λ c κs. search needs) (λ c κs. search needs)
     (λ c κs. search needs)
-    (λ c. c .flagged .ensures ∙ rw (c .before .before .before .before .capacity .ensures, c .before .before .before .before .before .write-level .ensures, c .before .before .before .before .before .before .before .popped .ensures)))
+    (λ c. let at-capacity = c .before .before .before .before in let at-pop = at-capacity .before .before .before in
+    c .flagged .ensures
+    ∙ rw (at-capacity .capacity .ensures, at-capacity .before .write-level .ensures, at-pop .popped .ensures)))

@@ -18,4 +18,6 @@ filled-spec =
     (λ c κs. let a = c .before .before .before .args in let full = c .before .before .full in
     room-left (a .efifo) (a .self .count) (sym (full .ensures) ∙ or-right (a .self .tc) (full .result) (c .if1 .left)))
     (λ c κs. search needs) (λ c κs. search needs)
-    (λ c. rw (← c .before .before .before .before .before .before .before .full .ensures, c .before .before .before .before .before .if1 .left) (c .flagged .ensures ∙ rw (c .before .before .read-level .ensures, c .before .before .before .before .pushed .ensures))))
+    (λ c. let at-push = c .before .before .before .before in let at-full = at-push .before .before .before in
+    rw (← at-full .full .ensures, at-push .before .if1 .left)
+    (c .flagged .ensures ∙ rw (c .before .before .read-level .ensures, at-push .pushed .ensures))))

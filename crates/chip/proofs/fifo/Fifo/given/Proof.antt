@@ -14,6 +14,9 @@ given-spec =
     (tie.spec
     (λ c κs. search needs)
     (λ c. rw (← c .before .full .ensures, c .if1 .taken))
-    (λ c κs. let a = c .before .before .args in room-left (a .efifo) (a .self .count) (sym (c .before .full .ensures) ∙ c .if1 .left))
+    (λ c κs. let a = c .before .before .args in
+    room-left (a .efifo) (a .self .count) (sym (c .before .full .ensures) ∙ c .if1 .left))
     (λ c κs. search needs) (λ c κs. search needs)
-    (λ c. rw (← c .before .before .before .before .before .before .before .full .ensures, c .before .before .before .before .before .before .if1 .left) (c .flagged .ensures ∙ rw (c .before .before .before .capacity .ensures, c .before .before .before .before .before .pushed .ensures))))
+    (λ c. let at-push = c .before .before .before .before .before in let at-full = at-push .before .before in
+    rw (← at-full .full .ensures, at-push .before .if1 .left)
+    (c .flagged .ensures ∙ rw (c .before .before .before .capacity .ensures, at-push .pushed .ensures))))

@@ -1,4 +1,5 @@
--- `chip::fifo::Fifo::popped` meets its contract (01 FIFO): the fifteen bytes written out are the array without its first.
+-- `chip::fifo::Fifo::popped` meets its contract (01 FIFO): the fifteen bytes written out are the array
+-- without its first.
 -- Assumes nothing.
 use mathlib.Core.Path.{_≡_, ap}
 use mathlib.Core.List.{List, [], _∷_, _++_}
@@ -20,4 +21,5 @@ popped-spec =
     (λ c κs. search needs)
     (λ c. let f = c .before .before .args .self in let h : length (f .bytes) ≡ 16 = search needs in
     rw (c .one-less .ensures)
-    (ap {B = Fifo} (λ (l : List ℕ). record { bytes = l ++ (0 ∷ []); count = f .count - 1; asks = f .asks; tc = f .tc }) (listed-drop (f .bytes) 15 1 h))))
+    (ap {B = Fifo} (λ (l : List ℕ). record { bytes = l ++ (0 ∷ []); count = f .count - 1; asks = f .asks; tc = f .tc })
+    (listed-drop (f .bytes) 15 1 h))))

@@ -14,4 +14,5 @@ taken-spec =
     (λ c κs. search needs) (λ c κs. search needs)
     (λ c. rw (c .before .before .if1 .taken) (c .flagged .ensures ∙ rw (c .before .empty .ensures)))
     (λ c κs. search needs) (λ c κs. search needs)
-    (λ c. rw (c .before .before .before .before .if1 .left) (c .flagged2 .ensures ∙ rw (c .before .before .before .popped .ensures))))
+    (λ c. rw (c .before .before .before .before .if1 .left)
+    (c .flagged2 .ensures ∙ rw (c .before .before .before .popped .ensures))))
