@@ -7,7 +7,7 @@ use Prim.Native.Nat.{ℕ, zero, suc, _+_, _-_, _≤_, _<_}
 use native.Mathlib.Omega.{arith}
 use native.Mathlib.Numerals.{add-one}
 use borrow.Author.Tests.{leb-false, le-leb, lt-leb, lt-ltb, le-ltb}
-use lib.Dec.{leb, ltb}
+use lib.Dec.{leb}
 use lib.ListN.{length, getD, set, take, drop, replicate}
 use lib.ListN.{length-set, length-append, length-drop, take-append-drop, replicate-append-replicate}
 use lib.Seq.{length-take-le, take-suc-set, take-append-le, drop-append-le, drop-set-lt, drop-drop}
@@ -250,3 +250,13 @@ held-tells efifo f g p q e asks tc =
     let r : f ≡ record { bytes = g .bytes; count = g .count; asks = g .asks; tc = g .tc } =
     rw (← b, ← n, ← asks, ← tc) in
     r
+
+-- What the laws ask for is met: a byte to the host at the highest threshold and taken; a byte from it with the FIFO off.
+
+pub read-run : takenOf false (filledOf false 15 false 7 emptied) ≡ emptied
+unfolding takenOf filledOf
+read-run = refl
+
+pub write-run : drawnOf true 0 (givenOf true false 7 (openedOf emptied)) ≡ openedOf emptied
+unfolding drawnOf givenOf openedOf
+write-run = refl

