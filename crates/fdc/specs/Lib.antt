@@ -1,4 +1,5 @@
 pub mod Answer
+pub mod Commands
 pub mod Record
 pub mod Registers
 pub mod Reset
