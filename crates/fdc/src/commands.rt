@@ -364,7 +364,7 @@ impl Controller {
         self.carry_out(kind)
     }
 
-    fn gathered(self, byte: u8) -> Controller
+    pub fn gathered(self, byte: u8) -> Controller
         requires { ⌜ self .bytes .gathered ≤ 9 ⌝ }
         ensures { λ r. ⌜ r ≡ gatheredOf byte self ⌝ }
     {
