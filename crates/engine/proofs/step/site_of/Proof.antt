@@ -1,0 +1,34 @@
+use borrow.Author.Needs.{needs}
+use Rattle.engine.proofs.step.site_of.Statement.{statement}
+use Rattle.engine.proofs.step.site_of.Tie as tie
+use Rattle.engine.proofs.step.site_of.Reads as reads
+use Rattle.engine.proofs.step.site_of.Lts as lts
+
+-- src/step.rt:30:27
+enum-known-work : tie.Need-enum-known-work
+enum-known-work c = search needs
+
+-- src/step.rt:31:22
+enum-known-work-2 : tie.Need-enum-known-work-2
+enum-known-work-2 c = search needs
+
+-- src/step.rt:32:26
+enum-known-work-3 : tie.Need-enum-known-work-3
+enum-known-work-3 c = search needs
+
+-- src/step.rt:26:1
+returns : tie.Need-returns
+returns c = ?
+
+-- src/step.rt:26:1
+returns-2 : tie.Need-returns-2
+returns-2 c = ?
+
+-- src/step.rt:26:1
+returns-3 : tie.Need-returns-3
+returns-3 c = ?
+
+pub site-of-spec : {M : Type 1} → statement M
+site-of-spec =
+    tie.close
+    (tie.spec enum-known-work enum-known-work-2 enum-known-work-3 returns returns-2 returns-3)

@@ -1,0 +1,10 @@
+pub mod First
+pub mod Follow
+pub mod Format
+pub mod Read
+pub mod ReadId
+pub mod Result
+pub mod Search
+pub mod Step
+pub mod Track
+pub mod Write
