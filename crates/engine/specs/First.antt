@@ -51,9 +51,9 @@ misplanned (Format plan) g = not (eqb (plan .n) (g .n)) || eqb (plan .sc) 0 || l
 unfoldable pub gateOf : Disk → Job → ℕ → ℕ → Gate
 gateOf Absent job side head = Shut 0x01
 gateOf (Present g) job side head =
-    cond (hasTrack g head side)
-    (cond (changes job && g .protect) (Shut 0x02) (cond (misplanned job g) (Shut 0x04) (Open g)))
-    (Shut 0x01)
+    cond (not (hasTrack g head side)) (Shut 0x01)
+    (cond (changes job && g .protect) (Shut 0x02)
+    (cond (misplanned job g) (Shut 0x04) (Open g)))
 
 -- 01 Result: the sector in hand; 01 Read ID: zeros; 01 Format: with no slot done
 unfoldable pub givenId : Job → ℕ → ℕ → Id

@@ -11,7 +11,7 @@ use Rattle.image.specs.Layout.{offsetOf, sameOf, sizeOf}
 use Rattle.engine.specs.declared.work.Site.{Site}
 
 -- 01 Data commands: no such track or side
-abbrev pub hasTrack : Geometry → ℕ → ℕ → Bool
+unfoldable pub hasTrack : Geometry → ℕ → ℕ → Bool
 hasTrack g head side = ltb head (g .cylinders) && ltb side (g .heads)
 
 -- 01 Data commands: a drive emptied or header changed later: any of the header's five bytes (R17)

@@ -90,8 +90,8 @@ fn first_tests(disk: Disk, job: Job, side: u8, head: u8) -> Gate
     match disk {
         Disk::Absent => Gate::Shut(0x01),
         Disk::Present(g) => {
-            let there = has_track(g, head, side);
-            if !there {
+            let missing = !has_track(g, head, side);
+            if missing {
                 return Gate::Shut(0x01);
             }
             let protected = job_changes(job) & g.protect;

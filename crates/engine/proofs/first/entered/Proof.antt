@@ -1,3 +1,5 @@
+use mathlib.Core.Path.{sym, _∙_}
+use Rattle.engine.specs.First.{enteredOf}
 use borrow.Author.Needs.{needs}
 use Rattle.engine.proofs.first.entered.Statement.{statement}
 use Rattle.engine.proofs.first.entered.Tie as tie
@@ -7,33 +9,28 @@ use Rattle.engine.proofs.first.given_id.Reads as given-id-reads
 use Rattle.engine.proofs.first.start.Reads as start-reads
 use Rattle.engine.proofs.result.end.Reads as end-reads
 
--- src/first.rt:180:20
 enum-known-gate : tie.Need-enum-known-gate
 enum-known-gate c = search needs
 
--- src/first.rt:181:17
 given-id-requires : tie.Need-given-id-requires
 given-id-requires c κs = search needs
 
--- src/first.rt:182:13
 end-requires : tie.Need-end-requires
 end-requires c κs = search needs
 
--- src/first.rt:184:20
 enum-known-gate-2 : tie.Need-enum-known-gate-2
 enum-known-gate-2 c = search needs
 
--- src/first.rt:190:13
 start-requires : tie.Need-start-requires
 start-requires c κs = search needs
 
--- src/first.rt:176:1
 returns : tie.Need-returns
-returns c = ?
+unfolding enteredOf
+returns c = rw (c .before .before .before .gate .given .1) (c .end .ensures ∙ rw (c .before .given-id .ensures))
 
--- src/first.rt:176:1
 returns-2 : tie.Need-returns-2
-returns-2 c = ?
+unfolding enteredOf
+returns-2 c = rw (c .before .before .gate2 .given .1) (c .start .ensures)
 
 pub entered-spec : {M : Type 1} → statement M
 entered-spec =

@@ -5,33 +5,26 @@ use Rattle.engine.proofs.first.job_misplanned.Reads as reads
 use Rattle.engine.proofs.first.job_misplanned.Lts as lts
 use Rattle.engine.proofs.first.plan_wrong.Reads as plan-wrong-reads
 
--- src/first.rt:80:26
 enum-told : tie.Need-enum-told
 enum-told c = search needs
 
--- src/first.rt:81:19
 enum-known-job : tie.Need-enum-known-job
 enum-known-job c = search needs
 
--- src/first.rt:82:21
 enum-known-job-2 : tie.Need-enum-known-job-2
 enum-known-job-2 c = search needs
 
--- src/first.rt:82:30
 plan-wrong-requires : tie.Need-plan-wrong-requires
 plan-wrong-requires c κs = search needs
 
--- src/first.rt:76:1
 returns : tie.Need-returns
 returns c = search needs
 
--- src/first.rt:76:1
 returns-2 : tie.Need-returns-2
-returns-2 c = ?
+returns-2 c = rw (c .before .job .given .1)
 
--- src/first.rt:76:1
 returns-3 : tie.Need-returns-3
-returns-3 c = ?
+returns-3 c = rw (c .before .before .job2 .given .1) (c .plan-wrong .ensures)
 
 pub job-misplanned-spec : {M : Type 1} → statement M
 job-misplanned-spec =

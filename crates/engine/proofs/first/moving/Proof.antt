@@ -1,3 +1,5 @@
+use mathlib.Core.Path.{sym, _∙_}
+use Rattle.engine.specs.First.{movingOf}
 use borrow.Author.Needs.{needs}
 use Rattle.engine.proofs.first.moving.Statement.{statement}
 use Rattle.engine.proofs.first.moving.Tie as tie
@@ -8,45 +10,37 @@ use Rattle.engine.proofs.first.task_of.Reads as task-of-reads
 use Rattle.engine.proofs.follow.fresh_at.Reads as fresh-at-reads
 use Rattle.engine.proofs.result.moves.Reads as moves-reads
 
--- src/first.rt:134:9
 task-of-requires : tie.Need-task-of-requires
 task-of-requires c κs = search needs
 
--- src/first.rt:137:30
 enum-told : tie.Need-enum-told
 enum-told c = search needs
 
--- src/first.rt:137:30
 fresh-at-requires : tie.Need-fresh-at-requires
 fresh-at-requires c κs = search needs
 
--- src/first.rt:136:23
 moves-requires : tie.Need-moves-requires
 moves-requires c κs = search needs
 
--- src/first.rt:144:30
 enum-told-2 : tie.Need-enum-told-2
 enum-told-2 c = search needs
 
--- src/first.rt:144:30
 fresh-at-requires-2 : tie.Need-fresh-at-requires-2
 fresh-at-requires-2 c κs = search needs
 
--- src/first.rt:147:13
 opened-requires : tie.Need-opened-requires
 opened-requires c κs = search needs
 
--- src/first.rt:143:24
 moves-requires-2 : tie.Need-moves-requires-2
 moves-requires-2 c κs = search needs
 
--- src/first.rt:131:1
 returns : tie.Need-returns
-returns c = ?
+unfolding movingOf
+returns c = rw (c .before .before .enum-told .given .1) (c .moves .ensures ∙ rw (c .before .fresh-at .ensures, c .before .before .before .before .task-of .ensures))
 
--- src/first.rt:131:1
 returns-2 : tie.Need-returns-2
-returns-2 c = ?
+unfolding movingOf
+returns-2 c = rw (c .before .before .before .enum-told2 .given .1) (c .moves2 .ensures ∙ rw (c .before .opened .ensures, c .before .before .fresh-at2 .ensures, c .before .before .before .before .before .task-of .ensures))
 
 pub moving-spec : {M : Type 1} → statement M
 moving-spec =

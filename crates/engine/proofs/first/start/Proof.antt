@@ -1,3 +1,5 @@
+use mathlib.Core.Path.{sym, _∙_}
+use Rattle.engine.specs.First.{startOf}
 use borrow.Author.Needs.{needs}
 use Rattle.engine.proofs.first.start.Statement.{statement}
 use Rattle.engine.proofs.first.start.Tie as tie
@@ -8,45 +10,38 @@ use Rattle.engine.proofs.first.moving.Reads as moving-reads
 use Rattle.engine.proofs.format.forms.Reads as forms-reads
 use Rattle.engine.proofs.result.goes.Reads as goes-reads
 
--- src/first.rt:158:13
 enum-told : tie.Need-enum-told
 enum-told c = search needs
 
--- src/first.rt:157:26
 goes-requires : tie.Need-goes-requires
 goes-requires c κs = search needs
 
--- src/first.rt:162:19
 enum-known-job : tie.Need-enum-known-job
 enum-known-job c = search needs
 
--- src/first.rt:164:13
 moving-requires : tie.Need-moving-requires
 moving-requires c κs = search needs
 
--- src/first.rt:166:21
 enum-known-job-2 : tie.Need-enum-known-job-2
 enum-known-job-2 c = search needs
 
--- src/first.rt:170:13
 opened-requires : tie.Need-opened-requires
 opened-requires c κs = search needs
 
--- src/first.rt:166:30
 forms-requires : tie.Need-forms-requires
 forms-requires c κs = search needs
 
--- src/first.rt:153:1
 returns : tie.Need-returns
-returns c = ?
+unfolding startOf
+returns c = rw (c .before .enum-told .given .1) (c .goes .ensures)
 
--- src/first.rt:153:1
 returns-2 : tie.Need-returns-2
-returns-2 c = ?
+unfolding startOf
+returns-2 c = rw (c .before .before .job .given .1) (c .moving .ensures)
 
--- src/first.rt:153:1
 returns-3 : tie.Need-returns-3
-returns-3 c = ?
+unfolding startOf
+returns-3 c = rw (c .before .before .before .job2 .given .1) (c .forms .ensures ∙ rw (c .before .opened .ensures))
 
 pub start-spec : {M : Type 1} → statement M
 start-spec =

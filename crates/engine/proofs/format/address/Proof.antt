@@ -1,3 +1,5 @@
+use mathlib.Core.Path.{sym, _∙_}
+use Rattle.engine.specs.Format.{addressOf}
 use borrow.Author.Needs.{needs}
 use Rattle.engine.proofs.format.address.Statement.{statement}
 use Rattle.engine.proofs.format.address.Tie as tie
@@ -9,41 +11,34 @@ use Rattle.engine.proofs.format.format_end.Reads as format-end-reads
 use Rattle.engine.proofs.format.put_address.Reads as put-address-reads
 use Rattle.engine.proofs.track.mark_place.Reads as mark-place-reads
 
--- src/format.rt:125:9
 format-end-requires : tie.Need-format-end-requires
 format-end-requires c κs = search needs
 
--- src/format.rt:125:9
 returns : tie.Need-returns
-returns c = ?
+unfolding addressOf
+returns c = rw (c .before .if1 .taken) (c .format-end .ensures)
 
--- src/format.rt:135:14
 mark-place-requires : tie.Need-mark-place-requires
 mark-place-requires c κs = search needs
 
--- src/format.rt:135:14
 add-at : tie.Need-add-at
 add-at c = search needs
 
--- src/format.rt:135:14
 add-at-2 : tie.Need-add-at-2
 add-at-2 c = search needs
 
--- src/format.rt:136:9
 front-requires : tie.Need-front-requires
 front-requires c κs = search needs
 
--- src/format.rt:137:9
 drawn-requires : tie.Need-drawn-requires
 drawn-requires c κs = search needs
 
--- src/format.rt:138:5
 put-address-requires : tie.Need-put-address-requires
 put-address-requires c κs = search needs
 
--- src/format.rt:120:1
 returns-2 : tie.Need-returns-2
-returns-2 c = ?
+unfolding addressOf
+returns-2 c = rw (c .before .before .before .before .if1 .left) (c .put-address .ensures ∙ rw (c .before .drawn .ensures, c .before .before .front .ensures, c .before .before .before .mark-place .ensures .0))
 
 pub address-spec : {M : Type 1} → statement M
 address-spec =

@@ -1,3 +1,5 @@
+use mathlib.Core.Path.{sym, _∙_}
+use Rattle.engine.specs.Format.{clearOf}
 use borrow.Author.Needs.{needs}
 use Rattle.engine.proofs.format.clear.Statement.{statement}
 use Rattle.engine.proofs.format.clear.Tie as tie
@@ -7,21 +9,18 @@ use Rattle.engine.proofs.format.clear_on.Reads as clear-on-reads
 use Rattle.engine.proofs.track.mark_place.Reads as mark-place-reads
 use Rattle.image.proofs.mark.mark_byte.Reads as mark-byte-reads
 
--- src/format.rt:191:9
 mark-place-requires : tie.Need-mark-place-requires
 mark-place-requires c κs = search needs
 
--- src/format.rt:192:9
 mark-byte-requires : tie.Need-mark-byte-requires
 mark-byte-requires c κs = search needs
 
--- src/format.rt:193:5
 clear-on-requires : tie.Need-clear-on-requires
 clear-on-requires c κs = search needs
 
--- src/format.rt:188:1
 returns : tie.Need-returns
-returns c = ?
+unfolding clearOf
+returns c = c .clear-on .ensures ∙ rw (c .before .mark-byte .ensures, c .before .before .mark-place .ensures .0)
 
 pub clear-spec : {M : Type 1} → statement M
 clear-spec = tie.close (tie.spec mark-place-requires mark-byte-requires clear-on-requires returns)

@@ -1,3 +1,6 @@
+use mathlib.Core.Path.{sym, _∙_}
+use borrow.Author.Tests.{le-leb, lt-leb}
+use Rattle.engine.specs.Format.{fillOf}
 use borrow.Author.Needs.{needs}
 use Rattle.engine.proofs.format.fill.Statement.{statement}
 use Rattle.engine.proofs.format.fill.Tie as tie
@@ -11,45 +14,37 @@ use Rattle.engine.proofs.track.mark_place.Reads as mark-place-reads
 use Rattle.engine.proofs.track.sector_bytes.Reads as sector-bytes-reads
 use Rattle.image.proofs.mark.mark_byte.Reads as mark-byte-reads
 
--- src/format.rt:169:8
 sector-bytes-requires : tie.Need-sector-bytes-requires
 sector-bytes-requires c κs = search needs
 
--- src/format.rt:170:13
 mark-place-requires : tie.Need-mark-place-requires
 mark-place-requires c κs = search needs
 
--- src/format.rt:171:13
 mark-byte-requires : tie.Need-mark-byte-requires
 mark-byte-requires c κs = search needs
 
--- src/format.rt:175:9
 formed-requires : tie.Need-formed-requires
 formed-requires c κs = search needs
 
--- src/format.rt:175:9
 returns : tie.Need-returns
-returns c = ?
+unfolding fillOf
+returns c = simp (← c .before .before .before .before .sector-bytes .ensures .0, le-leb _ _ (c .before .before .before .if1 .taken)) (c .formed .ensures ∙ rw (c .before .mark-byte .ensures, c .before .before .mark-place .ensures .0))
 
--- src/format.rt:177:9
 data-place-requires : tie.Need-data-place-requires
 data-place-requires c κs = search needs
 
--- src/format.rt:178:9
 formatted-byte-requires : tie.Need-formatted-byte-requires
 formatted-byte-requires c κs = search needs
 
--- src/format.rt:180:29
 add-t16 : tie.Need-add-t16
 add-t16 c = search needs
 
--- src/format.rt:179:5
 forms-requires : tie.Need-forms-requires
 forms-requires c κs = search needs
 
--- src/format.rt:166:1
 returns-2 : tie.Need-returns-2
-returns-2 c = ?
+unfolding fillOf
+returns-2 c = simp (← c .before .before .before .before .sector-bytes .ensures .0, lt-leb _ _ (c .before .before .before .if1 .left)) (c .forms .ensures ∙ rw (c .before .formatted-byte .ensures, c .before .before .data-place .ensures))
 
 pub fill-spec : {M : Type 1} → statement M
 fill-spec =

@@ -1,3 +1,5 @@
+use borrow.Author.Tests.{le-leb, lt-leb}
+use Rattle.engine.specs.Read.{drainOf}
 use borrow.Author.Needs.{needs}
 use Rattle.engine.proofs.read.drain.Statement.{statement}
 use Rattle.engine.proofs.read.drain.Tie as tie
@@ -7,33 +9,29 @@ use Rattle.engine.proofs.read.drained.Reads as drained-reads
 use Rattle.engine.proofs.result.move_fails.Reads as move-fails-reads
 use Rattle.engine.proofs.result.moves.Reads as moves-reads
 
--- src/read.rt:101:9
 drained-requires : tie.Need-drained-requires
 drained-requires c κs = search needs
 
--- src/read.rt:101:9
 returns : tie.Need-returns
-returns c = ?
+unfolding drainOf
+returns c = rw (c .before .if1 .taken) (c .drained .ensures)
 
--- src/read.rt:104:9
 move-fails-requires : tie.Need-move-fails-requires
 move-fails-requires c κs = search needs
 
--- src/read.rt:104:9
 returns-2 : tie.Need-returns-2
-returns-2 c = ?
+unfolding drainOf
+returns-2 c = simp (c .before .before .if1 .left, le-leb _ _ (c .before .if2 .taken)) (c .move-fails .ensures)
 
--- src/read.rt:107:33
 add-t8 : tie.Need-add-t8
 add-t8 c = search needs
 
--- src/read.rt:106:5
 moves-requires : tie.Need-moves-requires
 moves-requires c κs = search needs
 
--- src/read.rt:96:1
 returns-3 : tie.Need-returns-3
-returns-3 c = ?
+unfolding drainOf
+returns-3 c = simp (c .before .before .if1 .left, lt-leb _ _ (c .before .if2 .left)) (c .moves .ensures)
 
 pub drain-spec : {M : Type 1} → statement M
 drain-spec =

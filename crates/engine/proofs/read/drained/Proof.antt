@@ -1,3 +1,4 @@
+use Rattle.engine.specs.Read.{drainedOf}
 use borrow.Author.Needs.{needs}
 use Rattle.engine.proofs.read.drained.Statement.{statement}
 use Rattle.engine.proofs.read.drained.Tie as tie
@@ -7,29 +8,26 @@ use Rattle.engine.proofs.follow.follow.Reads as follow-reads
 use Rattle.engine.proofs.result.move_end.Reads as move-end-reads
 use Rattle.engine.proofs.result.move_fails.Reads as move-fails-reads
 
--- src/read.rt:72:9
 move-fails-requires : tie.Need-move-fails-requires
 move-fails-requires c κs = search needs
 
--- src/read.rt:72:9
 returns : tie.Need-returns
-returns c = ?
+unfolding drainedOf
+returns c = rw (c .before .if1 .taken) (c .move-fails .ensures)
 
--- src/read.rt:76:9
 move-end-requires : tie.Need-move-end-requires
 move-end-requires c κs = search needs
 
--- src/read.rt:76:9
 returns-2 : tie.Need-returns-2
-returns-2 c = ?
+unfolding drainedOf
+returns-2 c = rw (c .before .before .before .if1 .left, c .before .before .if2 .taken) (c .move-end .ensures)
 
--- src/read.rt:86:5
 follow-requires : tie.Need-follow-requires
 follow-requires c κs = search needs
 
--- src/read.rt:68:1
 returns-3 : tie.Need-returns-3
-returns-3 c = ?
+unfolding drainedOf
+returns-3 c = rw (c .before .before .if1 .left, c .before .if2 .left) (c .follow .ensures)
 
 pub drained-spec : {M : Type 1} → statement M
 drained-spec =

@@ -1,3 +1,6 @@
+use Rattle.engine.proofs.CondLaws.{yes, no}
+use mathlib.Core.Path.{sym, _∙_}
+use Rattle.engine.specs.Read.{readOf}
 use borrow.Author.Needs.{needs}
 use Rattle.engine.proofs.read.read.Statement.{statement}
 use Rattle.engine.proofs.read.read.Tie as tie
@@ -11,49 +14,41 @@ use Rattle.engine.proofs.read.read_on.Reads as read-on-reads
 use Rattle.engine.proofs.track.data_place.Reads as data-place-reads
 use Rattle.image.proofs.bytes.byte_at.Reads as byte-at-reads
 
--- src/read.rt:57:9
 read-on-requires : tie.Need-read-on-requires
 read-on-requires c κs = search needs
 
--- src/read.rt:57:9
 returns : tie.Need-returns
-returns c = ?
+unfolding readOf
+returns c = yes _ _ (c .before .if1 .taken) (c .read-on .ensures)
 
--- src/read.rt:59:9
 full-requires : tie.Need-full-requires
 full-requires c κs = search needs
 
--- src/read.rt:61:9
 overrun-end-requires : tie.Need-overrun-end-requires
 overrun-end-requires c κs = search needs
 
--- src/read.rt:61:9
 returns-2 : tie.Need-returns-2
-returns-2 c = ?
+unfolding readOf
+returns-2 c = no _ _ (c .before .before .before .if1 .left) (yes _ _ (sym (c .before .before .full .ensures) ∙ c .before .if2 .taken) (c .overrun-end .ensures))
 
--- src/read.rt:63:27
 data-place-requires : tie.Need-data-place-requires
 data-place-requires c κs = search needs
 
--- src/read.rt:63:9
 byte-at-requires : tie.Need-byte-at-requires
 byte-at-requires c κs = search needs
 
--- src/read.rt:64:41
 last-byte-requires : tie.Need-last-byte-requires
 last-byte-requires c κs = search needs
 
--- src/read.rt:64:9
 filled-requires : tie.Need-filled-requires
 filled-requires c κs = search needs
 
--- src/read.rt:65:5
 read-on-requires-2 : tie.Need-read-on-requires-2
 read-on-requires-2 c κs = search needs
 
--- src/read.rt:53:1
 returns-3 : tie.Need-returns-3
-returns-3 c = ?
+unfolding readOf
+returns-3 c = no _ _ (c .before .before .before .before .before .before .before .if1 .left) (no _ _ (sym (c .before .before .before .before .before .before .full .ensures) ∙ c .before .before .before .before .before .if2 .left) (c .read-on2 .ensures ∙ rw (c .before .filled .ensures, c .before .before .last-byte .ensures, c .before .before .before .byte-at .ensures, c .before .before .before .before .data-place .ensures)))
 
 pub read-spec : {M : Type 1} → statement M
 read-spec =

@@ -1,3 +1,4 @@
+use Rattle.engine.specs.ReadId.{identifiedOf}
 use borrow.Author.Needs.{needs}
 use Rattle.engine.proofs.read_id.identified.Statement.{statement}
 use Rattle.engine.proofs.read_id.identified.Tie as tie
@@ -6,41 +7,35 @@ use Rattle.engine.proofs.read_id.identified.Lts as lts
 use Rattle.engine.proofs.read_id.id_here.Reads as id-here-reads
 use Rattle.engine.proofs.read_id.no_id_here.Reads as no-id-here-reads
 
--- src/read_id.rt:79:23
 enum-told : tie.Need-enum-told
 enum-told c = search needs
 
--- src/read_id.rt:79:23
 no-id-here-requires : tie.Need-no-id-here-requires
 no-id-here-requires c κs = search needs
 
--- src/read_id.rt:80:22
 enum-known-mark : tie.Need-enum-known-mark
 enum-known-mark c = search needs
 
--- src/read_id.rt:80:43
 id-here-requires : tie.Need-id-here-requires
 id-here-requires c κs = search needs
 
--- src/read_id.rt:81:25
 enum-told-2 : tie.Need-enum-told-2
 enum-told-2 c = search needs
 
--- src/read_id.rt:81:25
 id-here-requires-2 : tie.Need-id-here-requires-2
 id-here-requires-2 c κs = search needs
 
--- src/read_id.rt:75:1
 returns : tie.Need-returns
-returns c = ?
+unfolding identifiedOf
+returns c = rw (c .before .enum-told .given .1) (c .no-id-here .ensures)
 
--- src/read_id.rt:75:1
 returns-2 : tie.Need-returns-2
-returns-2 c = ?
+unfolding identifiedOf
+returns-2 c = rw (c .before .before .mark .given .1) (c .id-here .ensures)
 
--- src/read_id.rt:75:1
 returns-3 : tie.Need-returns-3
-returns-3 c = ?
+unfolding identifiedOf
+returns-3 c = rw (c .before .enum-told2 .given .1) (c .id-here2 .ensures)
 
 pub identified-spec : {M : Type 1} → statement M
 identified-spec =

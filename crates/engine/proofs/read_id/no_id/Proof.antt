@@ -1,3 +1,5 @@
+use mathlib.Core.Path.{sym, _∙_}
+use Rattle.engine.specs.ReadId.{noIdOf}
 use borrow.Author.Needs.{needs}
 use Rattle.engine.proofs.read_id.no_id.Statement.{statement}
 use Rattle.engine.proofs.read_id.no_id.Tie as tie
@@ -6,17 +8,15 @@ use Rattle.engine.proofs.read_id.no_id.Lts as lts
 use Rattle.engine.proofs.read_id.no_address.Reads as no-address-reads
 use Rattle.engine.proofs.result.end.Reads as end-reads
 
--- src/read_id.rt:39:9
 no-address-requires : tie.Need-no-address-requires
 no-address-requires c κs = search needs
 
--- src/read_id.rt:33:5
 end-requires : tie.Need-end-requires
 end-requires c κs = search needs
 
--- src/read_id.rt:30:1
 returns : tie.Need-returns
-returns c = ?
+unfolding noIdOf
+returns c = c .end .ensures ∙ rw (c .before .no-address .ensures)
 
 pub no-id-spec : {M : Type 1} → statement M
 no-id-spec = tie.close (tie.spec no-address-requires end-requires returns)

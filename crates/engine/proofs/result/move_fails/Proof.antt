@@ -1,3 +1,4 @@
+use Rattle.engine.specs.Result.{moveFails}
 use borrow.Author.Needs.{needs}
 use Rattle.engine.proofs.result.move_fails.Statement.{statement}
 use Rattle.engine.proofs.result.move_fails.Tie as tie
@@ -5,13 +6,12 @@ use Rattle.engine.proofs.result.move_fails.Reads as reads
 use Rattle.engine.proofs.result.move_fails.Lts as lts
 use Rattle.engine.proofs.result.move_end.Reads as move-end-reads
 
--- src/result.rt:67:5
 move-end-requires : tie.Need-move-end-requires
 move-end-requires c κs = search needs
 
--- src/result.rt:62:1
 returns : tie.Need-returns
-returns c = ?
+unfolding moveFails
+returns c = c .move-end .ensures
 
 pub move-fails-spec : {M : Type 1} → statement M
 move-fails-spec = tie.close (tie.spec move-end-requires returns)

@@ -1,3 +1,4 @@
+use Rattle.engine.specs.Search.{bareFound}
 use borrow.Author.Needs.{needs}
 use Rattle.engine.proofs.search.bare_found.Statement.{statement}
 use Rattle.engine.proofs.search.bare_found.Tie as tie
@@ -6,29 +7,25 @@ use Rattle.engine.proofs.search.bare_found.Lts as lts
 use Rattle.engine.proofs.result.move_fails.Reads as move-fails-reads
 use Rattle.engine.proofs.result.moves.Reads as moves-reads
 
--- src/search.rt:183:23
 enum-told : tie.Need-enum-told
 enum-told c = search needs
 
--- src/search.rt:183:23
 move-fails-requires : tie.Need-move-fails-requires
 move-fails-requires c κs = search needs
 
--- src/search.rt:185:13
 enum-told-2 : tie.Need-enum-told-2
 enum-told-2 c = search needs
 
--- src/search.rt:184:24
 moves-requires : tie.Need-moves-requires
 moves-requires c κs = search needs
 
--- src/search.rt:179:1
 returns : tie.Need-returns
-returns c = ?
+unfolding bareFound
+returns c = rw (c .before .enum-told .given .1) (c .move-fails .ensures)
 
--- src/search.rt:179:1
 returns-2 : tie.Need-returns-2
-returns-2 c = ?
+unfolding bareFound
+returns-2 c = rw (c .before .enum-told2 .given .1) (c .moves .ensures)
 
 pub bare-found-spec : {M : Type 1} → statement M
 bare-found-spec =

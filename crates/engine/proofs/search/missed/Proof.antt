@@ -1,3 +1,5 @@
+use mathlib.Core.Path.{sym, _∙_}
+use Rattle.engine.specs.Search.{missedOf}
 use borrow.Author.Needs.{needs}
 use Rattle.engine.proofs.search.missed.Statement.{statement}
 use Rattle.engine.proofs.search.missed.Tie as tie
@@ -8,29 +10,25 @@ use Rattle.engine.proofs.search.not_found.Reads as not-found-reads
 use Rattle.engine.proofs.search.one_on.Reads as one-on-reads
 use Rattle.engine.proofs.search.second_pass.Reads as second-pass-reads
 
--- src/search.rt:114:9
 second-pass-requires : tie.Need-second-pass-requires
 second-pass-requires c κs = search needs
 
--- src/search.rt:116:9
 not-found-requires : tie.Need-not-found-requires
 not-found-requires c κs = search needs
 
--- src/search.rt:116:9
 returns : tie.Need-returns
-returns c = ?
+unfolding missedOf
+returns c = rw (sym (c .before .before .second-pass .ensures) ∙ c .before .if1 .taken) (c .not-found .ensures)
 
--- src/search.rt:119:26
 one-on-requires : tie.Need-one-on-requires
 one-on-requires c κs = search needs
 
--- src/search.rt:118:5
 moves-requires : tie.Need-moves-requires
 moves-requires c κs = search needs
 
--- src/search.rt:110:1
 returns-2 : tie.Need-returns-2
-returns-2 c = ?
+unfolding missedOf
+returns-2 c = rw (sym (c .before .before .before .second-pass .ensures) ∙ c .before .before .if1 .left) (c .moves .ensures ∙ rw (c .before .one-on .ensures))
 
 pub missed-spec : {M : Type 1} → statement M
 missed-spec =

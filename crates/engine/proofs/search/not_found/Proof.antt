@@ -1,3 +1,5 @@
+use mathlib.Core.Path.{sym, _∙_}
+use Rattle.engine.specs.Search.{notFound}
 use borrow.Author.Needs.{needs}
 use Rattle.engine.proofs.search.not_found.Statement.{statement}
 use Rattle.engine.proofs.search.not_found.Tie as tie
@@ -6,25 +8,22 @@ use Rattle.engine.proofs.search.not_found.Lts as lts
 use Rattle.engine.proofs.result.move_fails.Reads as move-fails-reads
 use Rattle.engine.proofs.search.cylinder_bits.Reads as cylinder-bits-reads
 
--- src/search.rt:77:33
 cylinder-bits-requires : tie.Need-cylinder-bits-requires
 cylinder-bits-requires c κs = search needs
 
--- src/search.rt:77:9
 move-fails-requires : tie.Need-move-fails-requires
 move-fails-requires c κs = search needs
 
--- src/search.rt:77:9
 returns : tie.Need-returns
-returns c = ?
+unfolding notFound
+returns c = rw (c .before .before .if1 .taken) (c .move-fails .ensures ∙ rw (c .before .cylinder-bits .ensures .0))
 
--- src/search.rt:79:5
 move-fails-requires-2 : tie.Need-move-fails-requires-2
 move-fails-requires-2 c κs = search needs
 
--- src/search.rt:73:1
 returns-2 : tie.Need-returns-2
-returns-2 c = ?
+unfolding notFound
+returns-2 c = rw (c .before .if1 .left) (c .move-fails2 .ensures)
 
 pub not-found-spec : {M : Type 1} → statement M
 not-found-spec =

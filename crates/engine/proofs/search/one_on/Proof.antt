@@ -6,17 +6,14 @@ use Rattle.engine.proofs.search.one_on.Lts as lts
 use Rattle.engine.proofs.search.passes_after.Reads as passes-after-reads
 use Rattle.engine.proofs.track.next_slot.Reads as next-slot-reads
 
--- src/search.rt:102:15
 next-slot-requires : tie.Need-next-slot-requires
 next-slot-requires c κs = search needs
 
--- src/search.rt:103:17
 passes-after-requires : tie.Need-passes-after-requires
 passes-after-requires c κs = search needs
 
--- src/search.rt:98:1
 returns : tie.Need-returns
-returns c = ?
+returns c = rw (c .passes-after .ensures, c .before .next-slot .ensures)
 
 pub one-on-spec : {M : Type 1} → statement M
 one-on-spec = tie.close (tie.spec next-slot-requires passes-after-requires returns)

@@ -1,3 +1,5 @@
+use mathlib.Core.Path.{sym, _∙_}
+use Rattle.engine.specs.Search.{readFound}
 use borrow.Author.Needs.{needs}
 use Rattle.engine.proofs.search.read_found.Statement.{statement}
 use Rattle.engine.proofs.search.read_found.Tie as tie
@@ -7,25 +9,22 @@ use Rattle.engine.proofs.follow.follow.Reads as follow-reads
 use Rattle.engine.proofs.result.moves.Reads as moves-reads
 use Rattle.engine.proofs.search.with_other.Reads as with-other-reads
 
--- src/search.rt:142:9
 with-other-requires : tie.Need-with-other-requires
 with-other-requires c κs = search needs
 
--- src/search.rt:145:9
 follow-requires : tie.Need-follow-requires
 follow-requires c κs = search needs
 
--- src/search.rt:145:9
 returns : tie.Need-returns
-returns c = ?
+unfolding readFound
+returns c = rw (c .before .if1 .taken) (c .follow .ensures ∙ rw (c .before .before .before .with-other .ensures))
 
--- src/search.rt:152:5
 moves-requires : tie.Need-moves-requires
 moves-requires c κs = search needs
 
--- src/search.rt:139:1
 returns-2 : tie.Need-returns-2
-returns-2 c = ?
+unfolding readFound
+returns-2 c = rw (c .before .if1 .left) (c .moves .ensures ∙ rw (c .before .before .before .with-other .ensures))
 
 pub read-found-spec : {M : Type 1} → statement M
 read-found-spec =

@@ -1,3 +1,5 @@
+use mathlib.Core.Path.{sym, _∙_}
+use Rattle.engine.specs.Search.{searchOf}
 use borrow.Author.Needs.{needs}
 use Rattle.engine.proofs.search.search.Statement.{statement}
 use Rattle.engine.proofs.search.search.Tie as tie
@@ -7,21 +9,18 @@ use Rattle.engine.proofs.search.looked.Reads as looked-reads
 use Rattle.engine.proofs.track.slot_of.Reads as slot-of-reads
 use Rattle.image.proofs.mark.mark_of.Reads as mark-of-reads
 
--- src/search.rt:222:9
 slot-of-requires : tie.Need-slot-of-requires
 slot-of-requires c κs = search needs
 
--- src/search.rt:224:12
 mark-of-requires : tie.Need-mark-of-requires
 mark-of-requires c κs = search needs
 
--- src/search.rt:224:5
 looked-requires : tie.Need-looked-requires
 looked-requires c κs = search needs
 
--- src/search.rt:219:1
 returns : tie.Need-returns
-returns c = ?
+unfolding searchOf
+returns c = c .looked .ensures ∙ rw (c .before .mark-of .ensures, c .before .before .before .slot-of .ensures)
 
 pub search-spec : {M : Type 1} → statement M
 search-spec = tie.close (tie.spec slot-of-requires mark-of-requires looked-requires returns)

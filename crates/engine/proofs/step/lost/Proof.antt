@@ -1,3 +1,5 @@
+use mathlib.Core.Path.{sym, _∙_}
+use Rattle.engine.specs.Step.{lostOf}
 use borrow.Author.Needs.{needs}
 use Rattle.engine.proofs.step.lost.Statement.{statement}
 use Rattle.engine.proofs.step.lost.Tie as tie
@@ -8,45 +10,38 @@ use Rattle.engine.proofs.format.slots_done.Reads as slots-done-reads
 use Rattle.engine.proofs.read_id.no_id.Reads as no-id-reads
 use Rattle.engine.proofs.result.move_fails.Reads as move-fails-reads
 
--- src/step.rt:41:27
 enum-known-work : tie.Need-enum-known-work
 enum-known-work c = search needs
 
--- src/step.rt:41:50
 no-id-requires : tie.Need-no-id-requires
 no-id-requires c κs = search needs
 
--- src/step.rt:42:22
 enum-known-work-2 : tie.Need-enum-known-work-2
 enum-known-work-2 c = search needs
 
--- src/step.rt:42:44
 move-fails-requires : tie.Need-move-fails-requires
 move-fails-requires c κs = search needs
 
--- src/step.rt:43:26
 enum-known-work-3 : tie.Need-enum-known-work-3
 enum-known-work-3 c = search needs
 
--- src/step.rt:44:17
 slots-done-requires : tie.Need-slots-done-requires
 slots-done-requires c κs = search needs
 
--- src/step.rt:45:13
 format-end-requires : tie.Need-format-end-requires
 format-end-requires c κs = search needs
 
--- src/step.rt:37:1
 returns : tie.Need-returns
-returns c = ?
+unfolding lostOf
+returns c = rw (c .before .before .work .given .1) (c .no-id .ensures)
 
--- src/step.rt:37:1
 returns-2 : tie.Need-returns-2
-returns-2 c = ?
+unfolding lostOf
+returns-2 c = rw (c .before .before .work2 .given .1) (c .move-fails .ensures)
 
--- src/step.rt:37:1
 returns-3 : tie.Need-returns-3
-returns-3 c = ?
+unfolding lostOf
+returns-3 c = rw (c .before .before .before .work3 .given .1) (c .format-end .ensures ∙ rw (c .before .slots-done .ensures))
 
 pub lost-spec : {M : Type 1} → statement M
 lost-spec =

@@ -4,29 +4,23 @@ use Rattle.engine.proofs.step.site_of.Tie as tie
 use Rattle.engine.proofs.step.site_of.Reads as reads
 use Rattle.engine.proofs.step.site_of.Lts as lts
 
--- src/step.rt:30:27
 enum-known-work : tie.Need-enum-known-work
 enum-known-work c = search needs
 
--- src/step.rt:31:22
 enum-known-work-2 : tie.Need-enum-known-work-2
 enum-known-work-2 c = search needs
 
--- src/step.rt:32:26
 enum-known-work-3 : tie.Need-enum-known-work-3
 enum-known-work-3 c = search needs
 
--- src/step.rt:26:1
 returns : tie.Need-returns
-returns c = ?
+returns c = rw (c .before .work .given .1)
 
--- src/step.rt:26:1
 returns-2 : tie.Need-returns-2
-returns-2 c = ?
+returns-2 c = rw (c .before .work2 .given .1)
 
--- src/step.rt:26:1
 returns-3 : tie.Need-returns-3
-returns-3 c = ?
+returns-3 c = rw (c .before .work3 .given .1)
 
 pub site-of-spec : {M : Type 1} → statement M
 site-of-spec =

@@ -1,3 +1,4 @@
+use Rattle.engine.specs.Step.{stageOf}
 use borrow.Author.Needs.{needs}
 use Rattle.engine.proofs.step.stage_on.Statement.{statement}
 use Rattle.engine.proofs.step.stage_on.Tie as tie
@@ -10,77 +11,65 @@ use Rattle.engine.proofs.search.search.Reads as search-reads
 use Rattle.engine.proofs.write.await_byte.Reads as await-byte-reads
 use Rattle.engine.proofs.write.store.Reads as store-reads
 
--- src/step.rt:62:26
 enum-known-stage : tie.Need-enum-known-stage
 enum-known-stage c = search needs
 
--- src/step.rt:62:35
 search-requires : tie.Need-search-requires
 search-requires c κs = search needs
 
--- src/step.rt:63:24
 enum-known-stage-2 : tie.Need-enum-known-stage-2
 enum-known-stage-2 c = search needs
 
--- src/step.rt:63:33
 turn-requires : tie.Need-turn-requires
 turn-requires c κs = search needs
 
--- src/step.rt:64:24
 enum-known-stage-3 : tie.Need-enum-known-stage-3
 enum-known-stage-3 c = search needs
 
--- src/step.rt:64:41
 read-requires : tie.Need-read-requires
 read-requires c κs = search needs
 
--- src/step.rt:65:25
 enum-known-stage-4 : tie.Need-enum-known-stage-4
 enum-known-stage-4 c = search needs
 
--- src/step.rt:65:43
 drain-requires : tie.Need-drain-requires
 drain-requires c κs = search needs
 
--- src/step.rt:66:25
 enum-known-stage-5 : tie.Need-enum-known-stage-5
 enum-known-stage-5 c = search needs
 
--- src/step.rt:66:40
 await-byte-requires : tie.Need-await-byte-requires
 await-byte-requires c κs = search needs
 
--- src/step.rt:67:24
 enum-known-stage-6 : tie.Need-enum-known-stage-6
 enum-known-stage-6 c = search needs
 
--- src/step.rt:67:39
 store-requires : tie.Need-store-requires
 store-requires c κs = search needs
 
--- src/step.rt:58:1
 returns : tie.Need-returns
-returns c = ?
+unfolding stageOf
+returns c = rw (c .before .before .stage .given .1) (c .search .ensures)
 
--- src/step.rt:58:1
 returns-2 : tie.Need-returns-2
-returns-2 c = ?
+unfolding stageOf
+returns-2 c = rw (c .before .before .stage2 .given .1) (c .turn .ensures)
 
--- src/step.rt:58:1
 returns-3 : tie.Need-returns-3
-returns-3 c = ?
+unfolding stageOf
+returns-3 c = rw (c .before .before .stage3 .given .1) (c .read .ensures)
 
--- src/step.rt:58:1
 returns-4 : tie.Need-returns-4
-returns-4 c = ?
+unfolding stageOf
+returns-4 c = rw (c .before .before .stage4 .given .1) (c .drain .ensures)
 
--- src/step.rt:58:1
 returns-5 : tie.Need-returns-5
-returns-5 c = ?
+unfolding stageOf
+returns-5 c = rw (c .before .before .stage5 .given .1) (c .await-byte .ensures)
 
--- src/step.rt:58:1
 returns-6 : tie.Need-returns-6
-returns-6 c = ?
+unfolding stageOf
+returns-6 c = rw (c .before .before .stage6 .given .1) (c .store .ensures)
 
 pub stage-on-spec : {M : Type 1} → statement M
 stage-on-spec =

@@ -1,3 +1,4 @@
+use Rattle.engine.specs.Track.{markPlace}
 use borrow.Author.Needs.{needs}
 use Rattle.engine.proofs.track.slot_of.Statement.{statement}
 use Rattle.engine.proofs.track.slot_of.Tie as tie
@@ -5,13 +6,12 @@ use Rattle.engine.proofs.track.slot_of.Reads as reads
 use Rattle.engine.proofs.track.slot_of.Lts as lts
 use Rattle.image.proofs.slot.slot_in.Reads as slot-in-reads
 
--- src/track.rt:47:5
 slot-in-requires : tie.Need-slot-in-requires
 slot-in-requires c κs = search needs
 
--- src/track.rt:43:1
 returns : tie.Need-returns
-returns c = ?
+unfolding markPlace
+returns c = c .slot-in .ensures
 
 pub slot-of-spec : {M : Type 1} → statement M
 slot-of-spec = tie.close (tie.spec slot-in-requires returns)

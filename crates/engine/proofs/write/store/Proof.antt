@@ -1,3 +1,6 @@
+use mathlib.Core.Path.{sym, _∙_}
+use borrow.Author.Tests.{le-leb, lt-leb}
+use Rattle.engine.specs.Write.{storeOf}
 use borrow.Author.Needs.{needs}
 use Rattle.engine.proofs.write.store.Statement.{statement}
 use Rattle.engine.proofs.write.store.Tie as tie
@@ -10,41 +13,35 @@ use Rattle.engine.proofs.write.dry.Reads as dry-reads
 use Rattle.engine.proofs.write.put.Reads as put-reads
 use Rattle.engine.proofs.write.written.Reads as written-reads
 
--- src/write.rt:114:8
 pass-bytes-requires : tie.Need-pass-bytes-requires
 pass-bytes-requires c κs = search needs
 
--- src/write.rt:115:9
 written-requires : tie.Need-written-requires
 written-requires c κs = search needs
 
--- src/write.rt:115:9
 returns : tie.Need-returns
-returns c = ?
+unfolding storeOf
+returns c = simp (← c .before .before .pass-bytes .ensures .0, le-leb _ _ (c .before .if1 .taken)) (c .written .ensures)
 
--- src/write.rt:119:9
 dry-requires : tie.Need-dry-requires
 dry-requires c κs = search needs
 
--- src/write.rt:119:9
 returns-2 : tie.Need-returns-2
-returns-2 c = ?
+unfolding storeOf
+returns-2 c = simp (← c .before .before .before .before .pass-bytes .ensures .0, lt-leb _ _ (c .before .before .before .if1 .left), c .before .if2 .taken) (c .dry .ensures)
 
--- src/write.rt:121:9
 front-requires : tie.Need-front-requires
 front-requires c κs = search needs
 
--- src/write.rt:122:45
 drawn-requires : tie.Need-drawn-requires
 drawn-requires c κs = search needs
 
--- src/write.rt:122:5
 put-requires : tie.Need-put-requires
 put-requires c κs = search needs
 
--- src/write.rt:111:1
 returns-3 : tie.Need-returns-3
-returns-3 c = ?
+unfolding storeOf
+returns-3 c = simp (← c .before .before .before .before .before .before .pass-bytes .ensures .0, lt-leb _ _ (c .before .before .before .before .before .if1 .left), c .before .before .before .if2 .left) (c .put .ensures ∙ rw (c .before .drawn .ensures, c .before .before .front .ensures))
 
 pub store-spec : {M : Type 1} → statement M
 store-spec =
