@@ -1,6 +1,7 @@
 pub mod First
 pub mod Follow
 pub mod Format
+pub mod Kept
 pub mod Read
 pub mod ReadId
 pub mod Result

@@ -154,11 +154,7 @@ fn start(job: Job, site: Site, fifo: Fifo) -> Step
     ensures { λ r. ⌜ r ≡ startOf job site fifo ⌝ }
 {
     match job {
-        Job::Identify => goes(
-            Work::Identifying(site, 0, 0),
-            fifo,
-            Effect::Nothing,
-        ),
+        Job::Identify => goes(Work::Identifying(site, 0, 0), fifo, Effect::Nothing),
         Job::Move(transfer, id) => {
             let pass = transfer.pass;
             moving(pass, transfer, id, site, fifo)

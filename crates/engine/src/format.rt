@@ -42,7 +42,15 @@ pub fn format_id(plan: Plan, head: u8, side: u8, done: u8) -> Id
     }
 }
 
-pub fn format_end(normal: bool, st1: u8, done: u8, effect: Effect, site: Site, plan: Plan, head: u8) -> Step
+pub fn format_end(
+    normal: bool,
+    st1: u8,
+    done: u8,
+    effect: Effect,
+    site: Site,
+    plan: Plan,
+    head: u8,
+) -> Step
     ensures { λ r. ⌜ r ≡ formatEnd normal st1 done effect site plan head ⌝ }
 {
     let id = format_id(plan, head, site.side, done);
@@ -79,15 +87,7 @@ fn await_address(slot: u8, wait: u8, site: Site, plan: Plan, head: u8, fifo: Fif
     let empty = fifo.count == 0;
     if empty {
         if 63 <= wait {
-            return format_end(
-                false,
-                0x10,
-                slot,
-                Effect::Nothing,
-                site,
-                plan,
-                head,
-            );
+            return format_end(false, 0x10, slot, Effect::Nothing, site, plan, head);
         }
         return forms(
             Form::Awaiting(slot, wait + 1),
@@ -117,20 +117,21 @@ fn put_address(slot: u8, k: u8, site: Site, plan: Plan, fifo: Fifo, effect: Effe
     forms(Form::Addressing(slot, k + 1), site, plan, fifo, effect)
 }
 
-fn address(slot: u8, k: u8, site: Site, plan: Plan, head: u8, fifo: Fifo, efifo: bool, fifothr: u8) -> Step
+fn address(
+    slot: u8,
+    k: u8,
+    site: Site,
+    plan: Plan,
+    head: u8,
+    fifo: Fifo,
+    efifo: bool,
+    fifothr: u8,
+) -> Step
     ensures { λ r. ⌜ r ≡ addressOf slot k site plan head fifo efifo fifothr ⌝ }
 {
     let empty = fifo.count == 0;
     if empty {
-        return format_end(
-            false,
-            0x10,
-            slot,
-            Effect::Nothing,
-            site,
-            plan,
-            head,
-        );
+        return format_end(false, 0x10, slot, Effect::Nothing, site, plan, head);
     }
     let at = mark_place(site, head, slot) + 1 + k as usize;
     let byte = fifo.front();
@@ -152,13 +153,7 @@ fn formed(slot: u8, site: Site, plan: Plan, head: u8, fifo: Fifo, effect: Effect
     ensures { λ r. ⌜ r ≡ formedOf slot site plan head fifo effect ⌝ }
 {
     if slot as u16 + 1 < plan.sc as u16 {
-        return forms(
-            Form::Awaiting(slot + 1, 0),
-            site,
-            plan,
-            fifo,
-            effect,
-        );
+        return forms(Form::Awaiting(slot + 1, 0), site, plan, fifo, effect);
     }
     clear_on(slot, site, plan, head, fifo, effect)
 }
@@ -193,7 +188,15 @@ fn clear(slot: u8, site: Site, plan: Plan, head: u8, fifo: Fifo) -> Step
     clear_on(slot, site, plan, head, fifo, Effect::Store { at, byte })
 }
 
-pub fn form_on(form: Form, site: Site, plan: Plan, head: u8, fifo: Fifo, efifo: bool, fifothr: u8) -> Step
+pub fn form_on(
+    form: Form,
+    site: Site,
+    plan: Plan,
+    head: u8,
+    fifo: Fifo,
+    efifo: bool,
+    fifothr: u8,
+) -> Step
     ensures { λ r. ⌜ r ≡ formOf form site plan head fifo efifo fifothr ⌝ }
 {
     match form {

@@ -50,7 +50,17 @@ fn read_on(sector: Sector, done: u16, site: Site, task: Task, fifo: Fifo) -> Ste
     )
 }
 
-pub fn read(sector: Sector, done: u16, site: Site, task: Task, head: u8, s: &[u8], fifo: Fifo, efifo: bool, fifothr: u8) -> Step
+pub fn read(
+    sector: Sector,
+    done: u16,
+    site: Site,
+    task: Task,
+    head: u8,
+    s: &[u8],
+    fifo: Fifo,
+    efifo: bool,
+    fifothr: u8,
+) -> Step
     ensures { λ r. ⌜ r ≡ readOf sector done site task head (now (s .entry)) fifo efifo fifothr ⌝ }
 {
     if fifo.tc {
@@ -73,24 +83,9 @@ fn drained(sector: Sector, site: Site, task: Task, fifo: Fifo) -> Step
     }
     if sector.other {
         let id = task.id;
-        return move_end(
-            true,
-            0x00,
-            0x00,
-            id,
-            Effect::Nothing,
-            site,
-            task,
-        );
+        return move_end(true, 0x00, 0x00, id, Effect::Nothing, site, task);
     }
-    follow(
-        sector.slot,
-        fifo.tc,
-        site,
-        task,
-        fifo,
-        Effect::Nothing,
-    )
+    follow(sector.slot, fifo.tc, site, task, fifo, Effect::Nothing)
 }
 
 pub fn drain(sector: Sector, looks: u8, site: Site, task: Task, fifo: Fifo) -> Step

@@ -61,15 +61,7 @@ fn no_id_here(slot: u8, passes: u8, site: Site, fifo: Fifo) -> Step
 fn id_here(id: Id, site: Site) -> Step
     ensures { λ r. ⌜ r ≡ idHere id site ⌝ }
 {
-    end(
-        true,
-        site.drive,
-        site.side,
-        0x00,
-        0x00,
-        id,
-        Effect::Nothing,
-    )
+    end(true, site.drive, site.side, 0x00, 0x00, id, Effect::Nothing)
 }
 
 fn identified(mark: Mark, id: Id, slot: u8, passes: u8, site: Site, fifo: Fifo) -> Step

@@ -50,7 +50,15 @@ fn other_bit(other: bool) -> u8
     if other { 0x40 } else { 0x00 }
 }
 
-pub fn move_end(normal: bool, st1: u8, st2: u8, id: Id, effect: Effect, site: Site, task: Task) -> Step
+pub fn move_end(
+    normal: bool,
+    st1: u8,
+    st2: u8,
+    id: Id,
+    effect: Effect,
+    site: Site,
+    task: Task,
+) -> Step
     requires { ⌜ st2 ≤ 0x3F ⌝ }
     ensures { λ r. ⌜ r ≡ moveEnd normal st1 st2 id effect site task ⌝ }
 {

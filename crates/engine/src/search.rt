@@ -149,16 +149,18 @@ fn read_found(other: bool, broken: bool, slot: u8, site: Site, task: Task, fifo:
         broken,
         other,
     };
-    moves(
-        Stage::Reading(sector, 0),
-        site,
-        met,
-        fifo,
-        Effect::Nothing,
-    )
+    moves(Stage::Reading(sector, 0), site, met, fifo, Effect::Nothing)
 }
 
-fn data_found(pass: Pass, deleted: bool, broken: bool, slot: u8, site: Site, task: Task, fifo: Fifo) -> Step
+fn data_found(
+    pass: Pass,
+    deleted: bool,
+    broken: bool,
+    slot: u8,
+    site: Site,
+    task: Task,
+    fifo: Fifo,
+) -> Step
     ensures { λ r. ⌜ r ≡ dataFound pass deleted broken slot site task fifo ⌝ }
 {
     match pass {
@@ -166,13 +168,7 @@ fn data_found(pass: Pass, deleted: bool, broken: bool, slot: u8, site: Site, tas
             let other = deleted != task.transfer.deleted;
             read_found(other, broken, slot, site, task, fifo)
         }
-        Pass::Write => moves(
-            Stage::Awaiting(slot, 0),
-            site,
-            task,
-            fifo,
-            Effect::Nothing,
-        ),
+        Pass::Write => moves(Stage::Awaiting(slot, 0), site, task, fifo, Effect::Nothing),
     }
 }
 
@@ -181,13 +177,7 @@ fn bare_found(pass: Pass, slot: u8, site: Site, task: Task, fifo: Fifo) -> Step
 {
     match pass {
         Pass::Read => move_fails(0x01, 0x01, site, task),
-        Pass::Write => moves(
-            Stage::Awaiting(slot, 0),
-            site,
-            task,
-            fifo,
-            Effect::Nothing,
-        ),
+        Pass::Write => moves(Stage::Awaiting(slot, 0), site, task, fifo, Effect::Nothing),
     }
 }
 

@@ -42,26 +42,37 @@ fn lost(work: Work, head: u8) -> Step
         Work::Moving(site, task, stage) => move_fails(0x01, 0x00, site, task),
         Work::Formatting(site, plan, form) => {
             let done = slots_done(form, plan);
-            format_end(
-                false,
-                0x01,
-                done,
-                Effect::Nothing,
-                site,
-                plan,
-                head,
-            )
+            format_end(false, 0x01, done, Effect::Nothing, site, plan, head)
         }
     }
 }
 
-fn stage_on(stage: Stage, site: Site, task: Task, head: u8, s: &[u8], fifo: Fifo, efifo: bool, fifothr: u8) -> Step
+fn stage_on(
+    stage: Stage,
+    site: Site,
+    task: Task,
+    head: u8,
+    s: &[u8],
+    fifo: Fifo,
+    efifo: bool,
+    fifothr: u8,
+) -> Step
     ensures { λ r. ⌜ r ≡ stageOf stage site task head (now (s .entry)) fifo efifo fifothr ⌝ }
 {
     match stage {
         Stage::Searching(look) => search(look, site, task, head, s, fifo),
         Stage::Turning(slot) => turn(slot, site, task, head, fifo),
-        Stage::Reading(sector, done) => read(sector, done, site, task, head, s, fifo, efifo, fifothr),
+        Stage::Reading(sector, done) => read(
+            sector,
+            done,
+            site,
+            task,
+            head,
+            s,
+            fifo,
+            efifo,
+            fifothr,
+        ),
         Stage::Draining(sector, looks) => drain(sector, looks, site, task, fifo),
         Stage::Awaiting(slot, wait) => await_byte(slot, wait, site, task, head, fifo),
         Stage::Storing(slot, done) => store(slot, done, site, task, head, fifo, efifo, fifothr),
@@ -73,13 +84,30 @@ fn work_on(work: Work, head: u8, s: &[u8], fifo: Fifo, efifo: bool, fifothr: u8)
 {
     match work {
         Work::Identifying(site, slot, passes) => identify(slot, passes, site, head, s, fifo),
-        Work::Moving(site, task, stage) => stage_on(stage, site, task, head, s, fifo, efifo, fifothr),
+        Work::Moving(site, task, stage) => stage_on(
+            stage,
+            site,
+            task,
+            head,
+            s,
+            fifo,
+            efifo,
+            fifothr,
+        ),
         Work::Formatting(site, plan, form) => form_on(form, site, plan, head, fifo, efifo, fifothr),
     }
 }
 
 // A tick after the first.
-pub fn go_on(work: Work, disk: Disk, head: u8, s: &[u8], fifo: Fifo, efifo: bool, fifothr: u8) -> Step
+pub fn go_on(
+    work: Work,
+    disk: Disk,
+    head: u8,
+    s: &[u8],
+    fifo: Fifo,
+    efifo: bool,
+    fifothr: u8,
+) -> Step
     ensures { λ r. ⌜ r ≡ goOnOf work disk head (now (s .entry)) fifo efifo fifothr ⌝ }
 {
     let site = site_of(work);

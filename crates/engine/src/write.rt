@@ -98,17 +98,19 @@ fn written(slot: u8, site: Site, task: Task, head: u8, fifo: Fifo) -> Step
     let at = mark_place(site, head, slot);
     let byte = written_mark(false, task);
     let tc = fifo.tc & (fifo.count == 0);
-    follow(
-        slot,
-        tc,
-        site,
-        task,
-        fifo,
-        Effect::Store { at, byte },
-    )
+    follow(slot, tc, site, task, fifo, Effect::Store { at, byte })
 }
 
-pub fn store(slot: u8, done: u16, site: Site, task: Task, head: u8, fifo: Fifo, efifo: bool, fifothr: u8) -> Step
+pub fn store(
+    slot: u8,
+    done: u16,
+    site: Site,
+    task: Task,
+    head: u8,
+    fifo: Fifo,
+    efifo: bool,
+    fifothr: u8,
+) -> Step
     ensures { λ r. ⌜ r ≡ storeOf slot done site task head fifo efifo fifothr ⌝ }
 {
     if pass_bytes(site) <= done as usize {
@@ -119,5 +121,13 @@ pub fn store(slot: u8, done: u16, site: Site, task: Task, head: u8, fifo: Fifo, 
         return dry(slot, done, site, task, head, fifo);
     }
     let byte = fifo.front();
-    put(byte, slot, done, site, task, head, fifo.drawn(efifo, fifothr))
+    put(
+        byte,
+        slot,
+        done,
+        site,
+        task,
+        head,
+        fifo.drawn(efifo, fifothr),
+    )
 }

@@ -1,22 +1,14 @@
-use mathlib.Core.Path.{sym, _∙_}
+-- `engine::follow::follow` meets its contract (01 Next). Assumes nothing.
+use mathlib.Core.Path.{_∙_}
 use Rattle.engine.specs.Follow.{followOf}
 use borrow.Author.Needs.{needs}
 use Rattle.engine.proofs.follow.follow.Statement.{statement}
 use Rattle.engine.proofs.follow.follow.Tie as tie
-use Rattle.engine.proofs.follow.follow.Reads as reads
-use Rattle.engine.proofs.follow.follow.Lts as lts
-use Rattle.chip.proofs.next.follow.Reads as follow-reads
-use Rattle.engine.proofs.follow.followed.Reads as followed-reads
-
-follow-requires : tie.Need-follow-requires
-follow-requires c κs = search needs
-
-followed-requires : tie.Need-followed-requires
-followed-requires c κs = search needs
-
-returns : tie.Need-returns
-unfolding followOf
-returns c = c .followed .ensures ∙ rw (c .before .follow .ensures)
 
 pub follow-spec : {M : Type 1} → statement M
-follow-spec = tie.close (tie.spec follow-requires followed-requires returns)
+unfolding followOf
+follow-spec =
+    tie.close
+    (tie.spec
+    (λ c κs. search needs) (λ c κs. search needs)
+    (λ c. c .followed .ensures ∙ rw (c .before .follow .ensures)))

@@ -1,3 +1,4 @@
+-- `engine::track::has_track` meets its contract (01 Data commands, the track). Assumes nothing.
 use mathlib.Core.Path.{refl}
 use Rattle.engine.specs.Track.{hasTrack}
 use Rattle.engine.proofs.track.has_track.Statement.{statement}

@@ -1,17 +1,13 @@
+-- `engine::write::underrun_end` meets its contract (01 Write). Assumes nothing.
 use Rattle.engine.specs.Write.{underrun}
 use borrow.Author.Needs.{needs}
 use Rattle.engine.proofs.write.underrun_end.Statement.{statement}
 use Rattle.engine.proofs.write.underrun_end.Tie as tie
-use Rattle.engine.proofs.write.underrun_end.Reads as reads
-use Rattle.engine.proofs.write.underrun_end.Lts as lts
-use Rattle.engine.proofs.result.move_fails.Reads as move-fails-reads
-
-move-fails-requires : tie.Need-move-fails-requires
-move-fails-requires c κs = search needs
-
-returns : tie.Need-returns
-unfolding underrun
-returns c = c .move-fails .ensures
 
 pub underrun-end-spec : {M : Type 1} → statement M
-underrun-end-spec = tie.close (tie.spec move-fails-requires returns)
+unfolding underrun
+underrun-end-spec =
+    tie.close
+    (tie.spec
+    (λ c κs. search needs)
+    (λ c. c .move-fails .ensures))
