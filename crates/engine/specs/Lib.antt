@@ -1,3 +1,4 @@
+pub mod Examples
 pub mod First
 pub mod Follow
 pub mod Format
