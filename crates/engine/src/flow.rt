@@ -1,13 +1,14 @@
-// What the controller asks of a command at work: which way its bytes go, and what it waits for.
+// What the controller asks of a command at work.
 use crate::order::Pass;
-use crate::order::Transfer;
+use crate::step::site_of;
 use crate::work::Form;
 use crate::work::Stage;
-use crate::work::Task;
 use crate::work::Work;
 ghost use mathlib.Core.Path.{_≡_};
-ghost use Rattle.engine.specs.Flow.{flowOf, passFlow, waitOf, stageWait, formWait, driveOf, hearsTc};
+ghost use Rattle.engine.specs.Format.{formWait};
+ghost use Rattle.engine.specs.Step.{passFlow, flowOf, stageWait, waitOf, driveOf, hearsTc};
 
+// Which way its bytes go.
 pub enum Flow {
     Quiet,
     ToHost,
@@ -27,13 +28,13 @@ pub fn flow_of(work: Work) -> Flow
     ensures { λ r. ⌜ r ≡ flowOf work ⌝ }
 {
     match work {
-        Work::Identifying(_, _, _) => Flow::Quiet,
-        Work::Moving(_, task, _) => {
+        Work::Identifying(site, slot, passes) => Flow::Quiet,
+        Work::Moving(site, task, stage) => {
             let transfer = task.transfer;
             let pass = transfer.pass;
             pass_flow(pass)
         }
-        Work::Formatting(_, _, _) => Flow::FromHost,
+        Work::Formatting(site, plan, form) => Flow::FromHost,
     }
 }
 
@@ -41,12 +42,12 @@ fn stage_wait(stage: Stage) -> u8
     ensures { λ r. ⌜ r ≡ stageWait stage ⌝ }
 {
     match stage {
-        Stage::Searching(_) => 0,
-        Stage::Turning(_) => 0,
-        Stage::Reading(_, _) => 0,
-        Stage::Draining(_, looks) => looks,
-        Stage::Awaiting(_, wait) => wait,
-        Stage::Storing(_, _) => 0,
+        Stage::Searching(look) => 0,
+        Stage::Turning(slot) => 0,
+        Stage::Reading(sector, done) => 0,
+        Stage::Draining(sector, looks) => looks,
+        Stage::Awaiting(slot, wait) => wait,
+        Stage::Storing(slot, done) => 0,
     }
 }
 
@@ -54,41 +55,38 @@ fn form_wait(form: Form) -> u8
     ensures { λ r. ⌜ r ≡ formWait form ⌝ }
 {
     match form {
-        Form::Awaiting(_, wait) => wait,
-        Form::Addressing(_, _) => 0,
-        Form::Filling(_, _) => 0,
-        Form::Clearing(_) => 0,
+        Form::Awaiting(slot, wait) => wait,
+        Form::Addressing(slot, k) => 0,
+        Form::Filling(slot, done) => 0,
+        Form::Clearing(slot) => 0,
     }
 }
 
-// 01 Refusals 4: a wait above 64 is a damaged record.
+// The ticks waited, or the looks that found bytes.
 pub fn wait_of(work: Work) -> u8
     ensures { λ r. ⌜ r ≡ waitOf work ⌝ }
 {
     match work {
-        Work::Identifying(_, _, _) => 0,
-        Work::Moving(_, _, stage) => stage_wait(stage),
-        Work::Formatting(_, _, form) => form_wait(form),
+        Work::Identifying(site, slot, passes) => 0,
+        Work::Moving(site, task, stage) => stage_wait(stage),
+        Work::Formatting(site, plan, form) => form_wait(form),
     }
 }
 
 pub fn drive_of(work: Work) -> u8
     ensures { λ r. ⌜ r ≡ driveOf work ⌝ }
 {
-    match work {
-        Work::Identifying(site, _, _) => site.drive,
-        Work::Moving(site, _, _) => site.drive,
-        Work::Formatting(site, _, _) => site.drive,
-    }
+    let site = site_of(work);
+    site.drive
 }
 
-// 01 Format: TC is ignored.
+// Whether a TC means anything to it.
 pub fn hears_tc(work: Work) -> bool
     ensures { λ r. ⌜ r ≡ hearsTc work ⌝ }
 {
     match work {
-        Work::Identifying(_, _, _) => true,
-        Work::Moving(_, _, _) => true,
-        Work::Formatting(_, _, _) => false,
+        Work::Identifying(site, slot, passes) => true,
+        Work::Moving(site, task, stage) => true,
+        Work::Formatting(site, plan, form) => false,
     }
 }

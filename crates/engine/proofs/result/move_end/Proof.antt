@@ -1,0 +1,14 @@
+-- `engine::result::move_end` meets its contract (01 Result). Assumes nothing.
+use mathlib.Core.Path.{_∙_}
+use Rattle.engine.specs.Result.{moveEnd}
+use borrow.Author.Needs.{needs}
+use Rattle.engine.proofs.result.move_end.Statement.{statement}
+use Rattle.engine.proofs.result.move_end.Tie as tie
+
+pub move-end-spec : {M : Type 1} → statement M
+unfolding moveEnd
+move-end-spec =
+    tie.close
+    (tie.spec
+    (λ c κs. search needs) (λ c. search needs) (λ c κs. search needs)
+    (λ c. c .end .ensures ∙ rw (c .before .other-bit .ensures .0)))

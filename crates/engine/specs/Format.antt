@@ -1,0 +1,98 @@
+-- 01 Format: wait as for Write; mark 0, the host's four bytes, B times D, mark 1; after SC slots each slot left gets mark 0.
+-- Assumes nothing.
+use Prim.Native.Nat.{ℕ, _+_}
+use mathlib.Core.Bool.{Bool, true, false, cond}
+use lib.Dec.{eqb, leb, ltb}
+use Rattle.chip.specs.declared.fifo.Fifo.{Fifo}
+use Rattle.chip.specs.Fifo.{drawnOf, frontOf}
+use Rattle.image.specs.declared.lent.Effect.{Effect}
+use Rattle.image.specs.declared.lent.Effect.the-variants.{Nothing, Store}
+use Rattle.image.specs.declared.mark.Mark.the-variants.{NoId, Data}
+use Rattle.image.specs.declared.slot.Id.{Id}
+use Rattle.image.specs.Mark.{byteOf}
+use Rattle.engine.specs.declared.order.Plan.{Plan}
+use Rattle.engine.specs.declared.work.Form.{Form}
+use Rattle.engine.specs.declared.work.Form.the-variants.{Awaiting, Addressing, Filling, Clearing}
+use Rattle.engine.specs.declared.work.Site.{Site}
+use Rattle.engine.specs.declared.work.Step.{Step}
+use Rattle.engine.specs.declared.work.Work.the-variants.{Formatting}
+use Rattle.engine.specs.Result.{endOf, goesOf}
+use Rattle.engine.specs.Track.{dataPlace, markPlace, sectorBytes}
+
+-- 01 Format: C H R N: head (0 for drives 2, 3), side, slots done, N, at every end (R14)
+abbrev pub formatId : Plan → ℕ → ℕ → ℕ → Id
+formatId plan head side done = record { c = head; h = side; r = done; n = plan .n }
+
+unfoldable pub formatEnd : Bool → ℕ → ℕ → Effect → Site → Plan → ℕ → Step
+formatEnd normal st1 done effect site plan head =
+    endOf normal (site .drive) (site .side) st1 0x00 (formatId plan head (site .side) done) effect
+
+-- slots done counts formatted slots: SC from the last of them on (R14)
+abbrev pub doneOf : Form → Plan → ℕ
+doneOf (Awaiting slot wait) plan = slot
+doneOf (Addressing slot k) plan = slot
+doneOf (Filling slot done) plan = slot
+doneOf (Clearing slot) plan = plan .sc
+
+abbrev pub formsOf : Form → Site → Plan → Fifo → Effect → Step
+formsOf form site plan fifo effect = goesOf (Formatting site plan form) fifo effect
+
+-- 01 Format: B times D. Where a formatted byte comes from is said here alone
+abbrev pub formattedByte : Plan → ℕ
+formattedByte plan = plan .fill
+
+-- 01 Format: wait as for Write; mark 0 in the tick that finds the byte, which is left
+unfoldable pub formAwait : ℕ → ℕ → Site → Plan → ℕ → Fifo → Step
+formAwait slot wait site plan head fifo =
+    cond (eqb (fifo .count) 0)
+    (cond (leb 63 wait) (formatEnd false 0x10 slot Nothing site plan head)
+    (formsOf (Awaiting slot (wait + 1)) site plan fifo Nothing))
+    (formsOf (Addressing slot 0) site plan fifo (Store (markPlace site head slot) (byteOf NoId)))
+
+-- the host's byte k of four stored behind the mark
+unfoldable pub addressPut : ℕ → ℕ → Site → Plan → Fifo → Effect → Step
+addressPut slot k site plan fifo effect =
+    cond (leb 3 k) (formsOf (Filling slot 0) site plan fifo effect)
+    (formsOf (Addressing slot (k + 1)) site plan fifo effect)
+
+-- 01 Format: the host's four bytes; a byte missing then ends it at once, ST1 10. TC is ignored
+unfoldable pub addressOf : ℕ → ℕ → Site → Plan → ℕ → Fifo → Bool → ℕ → Step
+addressOf slot k site plan head fifo efifo fifothr =
+    cond (eqb (fifo .count) 0) (formatEnd false 0x10 slot Nothing site plan head)
+    (addressPut slot k site plan (drawnOf efifo fifothr fifo) (Store (markPlace site head slot + 1 + k) (frontOf fifo)))
+
+-- 01 Format: after SC slots each slot left gets mark 0; the end falls in the last store's tick
+unfoldable pub clearOn : ℕ → Site → Plan → ℕ → Fifo → Effect → Step
+clearOn slot site plan head fifo effect =
+    cond (ltb (slot + 1) (site .disk .slots)) (formsOf (Clearing (slot + 1)) site plan fifo effect)
+    (formatEnd true 0x00 (plan .sc) effect site plan head)
+
+-- a slot is done
+unfoldable pub formedOf : ℕ → Site → Plan → ℕ → Fifo → Effect → Step
+formedOf slot site plan head fifo effect =
+    cond (ltb (slot + 1) (plan .sc)) (formsOf (Awaiting (slot + 1) 0) site plan fifo effect)
+    (clearOn slot site plan head fifo effect)
+
+-- 01 Format: B times D, mark 1
+unfoldable pub fillOf : ℕ → ℕ → Site → Plan → ℕ → Fifo → Step
+fillOf slot done site plan head fifo =
+    cond (leb (sectorBytes site) done)
+    (formedOf slot site plan head fifo (Store (markPlace site head slot) (byteOf (Data false false))))
+    (formsOf (Filling slot (done + 1)) site plan fifo (Store (dataPlace site head slot done) (formattedByte plan)))
+
+unfoldable pub clearOf : ℕ → Site → Plan → ℕ → Fifo → Step
+clearOf slot site plan head fifo = clearOn slot site plan head fifo (Store (markPlace site head slot) (byteOf NoId))
+
+-- a tick of a Format, by its stage
+unfoldable pub formOf : Form → Site → Plan → ℕ → Fifo → Bool → ℕ → Step
+formOf (Awaiting slot wait) site plan head fifo efifo fifothr = formAwait slot wait site plan head fifo
+formOf (Addressing slot k) site plan head fifo efifo fifothr = addressOf slot k site plan head fifo efifo fifothr
+formOf (Filling slot done) site plan head fifo efifo fifothr = fillOf slot done site plan head fifo
+formOf (Clearing slot) site plan head fifo efifo fifothr = clearOf slot site plan head fifo
+
+-- 01 Refusals 4: a wait above 64
+abbrev pub formWait : Form → ℕ
+formWait (Awaiting slot wait) = wait
+formWait (Addressing slot k) = 0
+formWait (Filling slot done) = 0
+formWait (Clearing slot) = 0

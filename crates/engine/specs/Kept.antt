@@ -1,0 +1,82 @@
+-- house: what a tick of a command keeps to, whatever record it is handed: its wait, the FIFO, its direction and drive, and that only a
+-- Write or a Format stores. The laws are in proofs/KeptLaws.antt.
+-- Assumes nothing.
+use Prim.Native.Nat.{ℕ, _≤_}
+use mathlib.Core.Bool.{Bool, true, false, not}
+use mathlib.Core.Path.{_≡_}
+use Rattle.chip.specs.declared.fifo.Fifo.{Fifo}
+use Rattle.chip.specs.Fifo.{emptied, Fits}
+use Rattle.image.specs.declared.lent.Effect.the-variants.{Nothing}
+use Rattle.engine.specs.declared.flow.Flow.{Flow}
+use Rattle.engine.specs.declared.flow.Flow.the-variants.{Quiet, ToHost, FromHost}
+use Rattle.engine.specs.declared.order.Job.{Job}
+use Rattle.engine.specs.declared.order.Job.the-variants.{Identify, Move, Format}
+use Rattle.engine.specs.declared.order.Pass.{Pass}
+use Rattle.engine.specs.declared.work.Stage.{Stage}
+use Rattle.engine.specs.declared.work.Stage.the-variants.{Searching, Turning, Reading, Draining, Awaiting, Storing}
+use Rattle.engine.specs.declared.work.Step.{Step}
+use Rattle.engine.specs.declared.work.Then.{Then}
+use Rattle.engine.specs.declared.work.Then.the-variants.{Ends, Works}
+use Rattle.engine.specs.declared.work.Work.{Work}
+use Rattle.engine.specs.declared.work.Work.the-variants.{Identifying, Moving, Formatting}
+use Rattle.engine.specs.First.{writes}
+use Rattle.engine.specs.Step.{passFlow, flowOf, waitOf, driveOf}
+
+-- a stage that a transfer of that kind has
+abbrev pub suits : Pass → Stage → Bool
+suits pass (Searching look) = true
+suits pass (Turning slot) = true
+suits pass (Reading sector done) = not (writes pass)
+suits pass (Draining sector looks) = not (writes pass)
+suits pass (Awaiting slot wait) = writes pass
+suits pass (Storing slot done) = writes pass
+
+abbrev pub suited : Work → Bool
+suited (Identifying site slot passes) = true
+suited (Moving site task stage) = suits (task .transfer .pass) stage
+suited (Formatting site plan form) = true
+
+abbrev pub jobFlow : Job → Flow
+jobFlow Identify = Quiet
+jobFlow (Move transfer id) = passFlow (transfer .pass)
+jobFlow (Format plan) = FromHost
+
+abbrev pub fromHost : Flow → Bool
+fromHost Quiet = false
+fromHost ToHost = false
+fromHost FromHost = true
+
+-- of the work that goes on, if any does
+abbrev pub thenWait : Then → ℕ
+thenWait (Ends verdict) = 0
+thenWait (Works work) = waitOf work
+
+abbrev pub thenSuited : Then → Bool
+thenSuited (Ends verdict) = true
+thenSuited (Works work) = suited work
+
+abbrev pub thenFlow : Flow → Then → Flow
+thenFlow flow (Ends verdict) = flow
+thenFlow flow (Works work) = flowOf work
+
+abbrev pub thenDrive : ℕ → Then → ℕ
+thenDrive drive (Ends verdict) = drive
+thenDrive drive (Works work) = driveOf work
+
+abbrev pub thenFifo : Fifo → Then → Fifo
+thenFifo fifo (Ends verdict) = emptied
+thenFifo fifo (Works work) = fifo
+
+-- a tick that was handed a FIFO, and a work whose stage suits or not, of that direction and drive
+pub record Kept (efifo : Bool) (before : Fifo) (ok : Bool) (flow : Flow) (drive : ℕ) (step : Step) : Type 0 where
+  -- 01 Refusals 4: never above 64; the 64th tick without a byte ends the command
+  pub wait : thenWait (step .then) ≤ 63
+  -- 01 Result: every end empties the FIFO
+  pub over : step .fifo ≡ thenFifo (step .fifo) (step .then)
+  -- 01 Refusals 4: a FIFO within its capacity stays so
+  pub fits : Fits efifo before → Fits efifo (step .fifo)
+  -- only a Write or a Format stores
+  pub stores : ok ≡ true → fromHost flow ≡ false → step .effect ≡ Nothing
+  pub stage : ok ≡ true → thenSuited (step .then) ≡ true
+  pub way : thenFlow flow (step .then) ≡ flow
+  pub place : thenDrive drive (step .then) ≡ drive
