@@ -9,7 +9,7 @@ use Rattle.chip.specs.declared.refusal.Refusal.the-variants.{Turn, Line}
 use Rattle.chip.specs.Fifo.{frontOf, takenOf, givenOf}
 use Rattle.engine.specs.declared.flow.Flow.{Flow}
 use Rattle.engine.specs.declared.flow.Flow.the-variants.{Quiet, ToHost, FromHost}
-use Rattle.engine.specs.Flow.{flowOf, hearsTc}
+use Rattle.engine.specs.Step.{flowOf, hearsTc}
 use Rattle.fdc.specs.declared.record.Phase.{Phase}
 use Rattle.fdc.specs.declared.record.Phase.the-variants.{Idle, Gathering, Starting, Working, Sensing, Answering}
 use Rattle.fdc.specs.declared.record.Controller.{Controller}

@@ -11,7 +11,7 @@ use Rattle.drive.specs.declared.Drive.{Drive}
 use Rattle.drive.specs.declared.Motion.the-variants.{Still}
 use Rattle.drive.specs.Drive.{fresh}
 use Rattle.drive.specs.Drive.{waitOf as countdownOf}
-use Rattle.engine.specs.Flow.{waitOf}
+use Rattle.engine.specs.Step.{waitOf}
 use Rattle.fdc.specs.declared.record.Registers.{Registers}
 use Rattle.fdc.specs.declared.record.Bytes.{Bytes}
 use Rattle.fdc.specs.declared.record.Phase.{Phase}

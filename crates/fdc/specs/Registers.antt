@@ -7,7 +7,7 @@ use lib.Dec.{eqb}
 use Rattle.drive.specs.declared.Drive.{Drive}
 use Rattle.engine.specs.declared.flow.Flow.{Flow}
 use Rattle.engine.specs.declared.flow.Flow.the-variants.{Quiet, ToHost, FromHost}
-use Rattle.engine.specs.Flow.{flowOf}
+use Rattle.engine.specs.Step.{flowOf}
 use Rattle.fdc.specs.declared.record.Phase.{Phase}
 use Rattle.fdc.specs.declared.record.Phase.the-variants.{Idle, Gathering, Starting, Working, Sensing, Answering}
 use Rattle.fdc.specs.declared.record.Controller.{Controller}
