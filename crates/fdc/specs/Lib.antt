@@ -5,3 +5,4 @@ pub mod Data
 pub mod Record
 pub mod Registers
 pub mod Reset
+pub mod Ticks

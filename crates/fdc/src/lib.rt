@@ -8,3 +8,4 @@ pub mod lines;
 pub mod ports;
 pub mod record;
 pub mod reset;
+pub mod ticks;

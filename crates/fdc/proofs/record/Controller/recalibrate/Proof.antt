@@ -1,55 +1,22 @@
+-- `fdc::record::Controller::recalibrate` meets its contract.
+-- Assumes nothing.
 use Rattle.fdc.specs.Commands.{recalibratedOf}
 use borrow.Author.Needs.{needs}
 use Rattle.fdc.proofs.record.Controller.recalibrate.Statement.{statement}
 use Rattle.fdc.proofs.record.Controller.recalibrate.Tie as tie
-use Rattle.fdc.proofs.record.Controller.recalibrate.Reads as reads
-use Rattle.fdc.proofs.record.Controller.recalibrate.Lts as lts
-use Rattle.chip.proofs.step.step_ticks.Reads as step-ticks-reads
-use Rattle.drive.proofs.Drive.recalibrate.Reads as recalibrate-reads
-use Rattle.fdc.proofs.record.Controller.drive.Reads as drive-reads
-use Rattle.fdc.proofs.record.Controller.idled.Reads as idled-reads
-use Rattle.fdc.proofs.record.Controller.say.Reads as say-reads
-use Rattle.fdc.proofs.record.Controller.with_drive.Reads as with-drive-reads
-
-element-copy-out-unit : tie.Need-element-copy-out-unit
-element-copy-out-unit c = search needs
-
-drive-requires : tie.Need-drive-requires
-drive-requires c κs = search needs
-
-say-requires : tie.Need-say-requires
-say-requires c κs = search needs
-
-returns : tie.Need-returns
-unfolding recalibratedOf
-returns c = rw (← c .before .before .drive .ensures, c .before .if1 .taken) (c .say .ensures)
-
-step-ticks-requires : tie.Need-step-ticks-requires
-step-ticks-requires c κs = search needs
-
-recalibrate-requires : tie.Need-recalibrate-requires
-recalibrate-requires c κs = search needs
-
-with-drive-requires : tie.Need-with-drive-requires
-with-drive-requires c κs = search needs
-
-idled-requires : tie.Need-idled-requires
-idled-requires c κs = search needs
-
-returns-2 : tie.Need-returns-2
-unfolding recalibratedOf
-returns-2 c = rw (← c .before .before .before .before .before .drive .ensures, c .before .before .before .before .if1 .left, ← c .before .before .before .step-ticks .ensures, ← c .before .before .recalibrate .ensures, ← c .before .with-drive .ensures) (c .idled .ensures)
 
 pub recalibrate-spec : {M : Type 1} → statement M
+unfolding recalibratedOf
 recalibrate-spec =
     tie.close
     (tie.spec
-    element-copy-out-unit
-    drive-requires
-    say-requires
-    returns
-    step-ticks-requires
-    recalibrate-requires
-    with-drive-requires
-    idled-requires
-    returns-2)
+    (λ c. search needs) (λ c κs. search needs) (λ c κs. search needs)
+    (λ c. rw (← c .before .before .drive .ensures, c .before .if1 .taken) (c .say .ensures))
+    (λ c κs. search needs) (λ c κs. search needs) (λ c κs. search needs) (λ c κs. search needs)
+    (λ c. rw (
+      ← c .before .before .before .before .before .drive .ensures,
+      c .before .before .before .before .if1 .left,
+      ← c .before .before .before .step-ticks .ensures,
+      ← c .before .before .recalibrate .ensures,
+      ← c .before .with-drive .ensures,
+    ) (c .idled .ensures)))

@@ -1,17 +1,14 @@
+-- `fdc::record::Controller::say_two` meets its contract.
+-- Assumes nothing.
 use Rattle.fdc.specs.Commands.{saidTwo}
 use borrow.Author.Needs.{needs}
 use Rattle.fdc.proofs.record.Controller.say_two.Statement.{statement}
 use Rattle.fdc.proofs.record.Controller.say_two.Tie as tie
-use Rattle.fdc.proofs.record.Controller.say_two.Reads as reads
-use Rattle.fdc.proofs.record.Controller.say_two.Lts as lts
-use Rattle.fdc.proofs.record.Controller.answered.Reads as answered-reads
-
-answered-requires : tie.Need-answered-requires
-answered-requires c κs = search needs
-
-returns : tie.Need-returns
-unfolding saidTwo
-returns c = c .answered .ensures
 
 pub say-two-spec : {M : Type 1} → statement M
-say-two-spec = tie.close (tie.spec answered-requires returns)
+unfolding saidTwo
+say-two-spec =
+    tie.close
+    (tie.spec
+    (λ c κs. search needs)
+    (λ c. c .answered .ensures))
