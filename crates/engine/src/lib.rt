@@ -1,5 +1,5 @@
-// A data command at work (01 Data commands): it knows its order, the disk met, the FIFO and the picked image, and nothing of
-// registers, ports or refusals.
+// A data command at work (01 Data commands): it knows its order, the disk met, the FIFO and the picked image, and
+// nothing of registers, ports or refusals.
 pub mod first;
 pub mod flow;
 pub mod follow;
