@@ -1,5 +1,5 @@
--- An answer that a test led to is the test's answer. For a test of a field whose whole record goes on: to rewrite by the test
--- would take the record apart.
+-- An answer that a test led to is the test's answer. For a test of a field whose whole record goes on: to rewrite by
+-- the test would take the record apart.
 -- Assumes nothing.
 use mathlib.Core.Bool.{Bool, true, false, cond}
 use mathlib.Core.Path.{_≡_}

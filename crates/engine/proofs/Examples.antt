@@ -11,13 +11,16 @@ use Rattle.engine.specs.Follow.{followedOf, followOf}
 use Rattle.engine.specs.Read.{overrun, readOn, readOf}
 use Rattle.engine.specs.ReadId.{identifyOf, identifiedOf, idHere}
 use Rattle.engine.specs.Result.{endOf, moveEnd, moveFails}
-use Rattle.engine.specs.Search.{notFound, missedOf, readFound, dataFound, bareFound, lookedOf, searchOf}
-use Rattle.engine.specs.Step.{lostOf, stageOf, workOf, goOnOf}
+use Rattle.engine.specs.Search.{notFound, missedOf, readFound, dataFound, lookedOf, searchOf}
+use Rattle.engine.specs.Step.{stageOf, workOf, goOnOf}
 use Rattle.engine.specs.Track.{hasTrack, staysOf, markPlace, dataPlace}
-use Rattle.engine.specs.Write.{awaitOf, putOf, dryOf, writtenOf, storeOf}
+use Rattle.engine.specs.Write.{awaitOf, putOf, writtenOf, storeOf}
 
 pub examples : Examples
-unfolding beginOf enteredOf gateOf givenId startOf movingOf endOf hasTrack staysOf sameOf markPlace dataPlace offsetOf trackAt trackLength sizeOf markOf goOnOf workOf stageOf searchOf lookedOf dataFound awaitOf storeOf putOf writtenOf followOf followedOf nextOf advancedOf openedOf givenOf filledOf drawnOf moveEnd moveFails notFound missedOf readFound readOn readOf overrun identifyOf identifiedOf idHere
+unfolding beginOf enteredOf gateOf givenId startOf movingOf endOf hasTrack staysOf sameOf markPlace dataPlace
+    offsetOf trackAt trackLength sizeOf markOf goOnOf workOf stageOf searchOf lookedOf dataFound awaitOf
+    storeOf putOf writtenOf followOf followedOf nextOf advancedOf openedOf givenOf filledOf drawnOf moveEnd
+    moveFails notFound missedOf readFound readOn readOf overrun identifyOf identifiedOf idHere
 examples = record {
   ex9 = refl;
   ex10-100-mark = refl;

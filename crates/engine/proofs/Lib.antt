@@ -1,3 +1,4 @@
 pub mod CondLaws
+pub mod EasyLaws
 pub mod Examples
 pub mod KeptLaws

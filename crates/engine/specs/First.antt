@@ -46,8 +46,8 @@ misplanned Identify g = false
 misplanned (Move transfer id) g = false
 misplanned (Format plan) g = not (eqb (plan .n) (g .n)) || eqb (plan .sc) 0 || ltb (g .slots) (plan .sc)
 
--- 01 Data commands: first tick, in this order: empty drive, no such track or side: ST1 01. Write or Format, protected: ST1 02.
--- Format with a wrong plan: ST1 04
+-- 01 Data commands: first tick, in this order: empty drive, no such track or side: ST1 01. Write or Format,
+-- protected: ST1 02. Format with a wrong plan: ST1 04
 unfoldable pub gateOf : Disk → Job → ℕ → ℕ → Gate
 gateOf Absent job side head = Shut 0x01
 gateOf (Present g) job side head =

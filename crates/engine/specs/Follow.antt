@@ -1,5 +1,5 @@
--- 01 Next: what a finished or skipped sector is followed by. The rule and the address are `nextOf`, of the crate below; the address
--- it carries is used as it stands, so that R is advanced once (01 Easy 1).
+-- 01 Next: what a finished or skipped sector is followed by. The rule and the address are `nextOf`, of the crate
+-- below; the address it carries is used as it stands, so that R is advanced once (01 Easy 1).
 -- Assumes nothing.
 use Prim.Native.Nat.{ℕ}
 use mathlib.Core.Bool.{Bool, true, false}
@@ -29,7 +29,8 @@ withId id task = record { transfer = task .transfer; id = id; other = task .othe
 abbrev pub onSide : ℕ → Site → Site
 onSide side site = record { drive = site .drive; side = side; disk = site .disk }
 
--- 01 Next, Result: TC ends normally, EOT with ST1 80; the search goes on behind the slot used, on the other side too (R2)
+-- 01 Next, Result: TC ends normally, EOT with ST1 80; the search goes on behind the slot used, on the other side too
+-- (R2)
 unfoldable pub followedOf : Next → ℕ → Site → Task → Fifo → Effect → Step
 followedOf (Ended id) slot site task fifo effect = moveEnd true 0x00 0x00 id effect site task
 followedOf (PastEot id) slot site task fifo effect = moveEnd false 0x80 0x00 id effect site task

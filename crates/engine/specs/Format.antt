@@ -1,4 +1,5 @@
--- 01 Format: wait as for Write; mark 0, the host's four bytes, B times D, mark 1; after SC slots each slot left gets mark 0.
+-- 01 Format: wait as for Write; mark 0, the host's four bytes, B times D, mark 1; after SC slots each slot left gets
+-- mark 0.
 -- Assumes nothing.
 use Prim.Native.Nat.{ℕ, _+_}
 use mathlib.Core.Bool.{Bool, true, false, cond}

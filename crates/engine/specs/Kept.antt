@@ -1,12 +1,13 @@
--- house: what a tick of a command keeps to, whatever record it is handed: its wait, the FIFO, its direction and drive, and that only a
--- Write or a Format stores. The laws are in proofs/KeptLaws.antt.
+-- house: what a tick of a command keeps to, whatever record it is handed: its wait, the FIFO, its direction and
+-- drive, and that only a Write or a Format stores. The laws are in proofs/KeptLaws.antt.
 -- Assumes nothing.
 use Prim.Native.Nat.{ℕ, _≤_}
 use mathlib.Core.Bool.{Bool, true, false, not}
 use mathlib.Core.Path.{_≡_}
 use Rattle.chip.specs.declared.fifo.Fifo.{Fifo}
 use Rattle.chip.specs.Fifo.{emptied, Fits}
-use Rattle.image.specs.declared.lent.Effect.the-variants.{Nothing}
+use Rattle.image.specs.declared.lent.Effect.{Effect}
+use Rattle.image.specs.declared.lent.Effect.the-variants.{Nothing, Store}
 use Rattle.engine.specs.declared.flow.Flow.{Flow}
 use Rattle.engine.specs.declared.flow.Flow.the-variants.{Quiet, ToHost, FromHost}
 use Rattle.engine.specs.declared.order.Job.{Job}
@@ -67,6 +68,11 @@ abbrev pub thenFifo : Fifo → Then → Fifo
 thenFifo fifo (Ends verdict) = emptied
 thenFifo fifo (Works work) = fifo
 
+-- where a store goes; no store counts as one right behind the header
+abbrev pub storePlace : Effect → ℕ
+storePlace Nothing = 13
+storePlace (Store at byte) = at
+
 -- a tick that was handed a FIFO, and a work whose stage suits or not, of that direction and drive
 pub record Kept (efifo : Bool) (before : Fifo) (ok : Bool) (flow : Flow) (drive : ℕ) (step : Step) : Type 0 where
   -- 01 Refusals 4: never above 64; the 64th tick without a byte ends the command
@@ -77,6 +83,9 @@ pub record Kept (efifo : Bool) (before : Fifo) (ok : Bool) (flow : Flow) (drive 
   pub fits : Fits efifo before → Fits efifo (step .fifo)
   -- only a Write or a Format stores
   pub stores : ok ≡ true → fromHost flow ≡ false → step .effect ≡ Nothing
+  -- 01 Image: no store touches the header or the first track's tag, so that the disk met stays through the command's
+  -- own stores
+  pub behind : 13 ≤ storePlace (step .effect)
   pub stage : ok ≡ true → thenSuited (step .then) ≡ true
   pub way : thenFlow flow (step .then) ≡ flow
   pub place : thenDrive drive (step .then) ≡ drive

@@ -1,4 +1,5 @@
--- 01 Result: what a command ends with, and what a tick gives that does not end it. Which end has which bytes is said where it is met.
+-- 01 Result: what a command ends with, and what a tick gives that does not end it. Which end has which bytes is said
+-- where it is met.
 -- Assumes nothing.
 use Prim.Native.Nat.{ℕ, _+_, _*_, _%_}
 use mathlib.Core.Bool.{Bool, false, cond}

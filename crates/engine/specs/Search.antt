@@ -26,9 +26,11 @@ use Rattle.engine.specs.Track.{markPlace, nextSlot}
 -- 01 Search: C H R N equal the command's and N is the header's
 abbrev pub matches : Id → Id → ℕ → Bool
 matches id wanted n =
-    eqb (id .c) (wanted .c) && eqb (id .h) (wanted .h) && eqb (id .r) (wanted .r) && eqb (id .n) (wanted .n) && eqb (id .n) n
+    eqb (id .c) (wanted .c) && eqb (id .h) (wanted .h) && eqb (id .r) (wanted .r) && eqb (id .n) (wanted .n)
+    && eqb (id .n) n
 
--- an ID that does not match, whatever its H, R, N and mark (R4): met, with another C below FF, with another C that is FF
+-- an ID that does not match, whatever its H, R, N and mark (R4): met, with another C below FF,
+-- with another C that is FF
 abbrev pub noted : Id → Id → Search → Search
 noted id wanted look =
     record {
@@ -76,12 +78,13 @@ missedOf look site task fifo =
 abbrev pub withOther : Bool → Task → Task
 withOther other task = record { transfer = task .transfer; id = task .id; other = task .other || other }
 
--- 01 Read: SK 1 skips another kind in the tick of the match, broken or not, by Next; a skipped slot counts as used (R2). The mark
--- seen at the match holds to the sector's end
+-- 01 Read: SK 1 skips another kind in the tick of the match, broken or not, by Next; a skipped slot counts as used
+-- (R2). The mark seen at the match holds to the sector's end
 unfoldable pub readFound : Bool → Bool → ℕ → Site → Task → Fifo → Step
 readFound other broken slot site task fifo =
     cond (other && task .transfer .sk) (followOf slot (fifo .tc) site (withOther other task) fifo Nothing)
-    (movesOf (Reading (record { slot = slot; broken = broken; other = other }) 0) site (withOther other task) fifo Nothing)
+    (movesOf (Reading (record { slot = slot; broken = broken; other = other }) 0) site (withOther other task) fifo
+    Nothing)
 
 -- a match with data: a Write waits for its byte, whatever stood there (R13)
 unfoldable pub dataFound : Pass → Bool → Bool → ℕ → Site → Task → Fifo → Step
@@ -111,4 +114,5 @@ slotOf img site head slot = slotAt img (markPlace site head slot)
 -- 01 Search: one slot a tick
 unfoldable pub searchOf : Search → Site → Task → ℕ → List ℕ → Fifo → Step
 searchOf look site task head img fifo =
-    lookedOf (markOf (slotOf img site head (look .slot) .mark)) (slotOf img site head (look .slot) .id) look site task fifo
+    lookedOf (markOf (slotOf img site head (look .slot) .mark))
+    (slotOf img site head (look .slot) .id) look site task fifo

@@ -1,5 +1,5 @@
--- Where a data command works (01 Data commands, "The track is the one under the drive's head, on the side in use"), whether that
--- track is there, and how many bytes a sector has.
+-- Where a data command works (01 Data commands, "The track is the one under the drive's head, on the side in use"),
+-- whether that track is there, and how many bytes a sector has.
 -- Assumes nothing.
 use Prim.Native.Nat.{ℕ, _+_}
 use mathlib.Core.Bool.{Bool, false, _&&_, cond}

@@ -24,7 +24,8 @@ underrun site task = moveFails 0x10 0x00 site task
 abbrev pub writtenMark : Bool → Task → ℕ
 writtenMark broken task = byteOf (Data (task .transfer .deleted) broken)
 
--- 01 Write: wait for a byte; the 64th tick without one ends with ST1 10. Broken mark in the tick that finds the byte, which is left
+-- 01 Write: wait for a byte; the 64th tick without one ends with ST1 10. Broken mark in the tick that finds the byte,
+-- which is left
 unfoldable pub awaitOf : ℕ → ℕ → Site → Task → ℕ → Fifo → Step
 awaitOf slot wait site task head fifo =
     cond (eqb (fifo .count) 0)

@@ -40,7 +40,7 @@ ghost use Rattle.engine.specs.First.{
 };
 
 // What the first tests say: the end's ST1, or the disk met.
-pub enum Gate {
+enum Gate {
     Shut(u8),
     Open(Geometry),
 }

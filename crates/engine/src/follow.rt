@@ -1,4 +1,5 @@
-// 01 Next: what follows a sector read, written or skipped. The address that `Next` carries is used as it stands (01 Easy 1).
+// 01 Next: what follows a sector read, written or skipped. The address that `Next` carries is used as it stands (01
+// Easy 1).
 use crate::result::move_end;
 use crate::result::move_fails;
 use crate::result::moves;

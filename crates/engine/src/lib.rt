@@ -1,15 +1,15 @@
-// A data command at work (01 Data commands): it knows its order, the disk met, the FIFO and the picked image, and nothing of
-// registers, ports or refusals.
+// A data command at work (01 Data commands): it knows its order, the disk met, the FIFO and the picked image, and
+// nothing of registers, ports or refusals. What is public: `first::begin`, `step::go_on`, and the questions of `flow`.
 pub mod first;
 pub mod flow;
-pub mod follow;
-pub mod format;
+mod follow;
+mod format;
 pub mod order;
-pub mod read;
-pub mod read_id;
-pub mod result;
-pub mod search;
+mod read;
+mod read_id;
+mod result;
+mod search;
 pub mod step;
-pub mod track;
+mod track;
 pub mod work;
-pub mod write;
+mod write;

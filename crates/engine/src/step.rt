@@ -23,7 +23,7 @@ use image::lent::Effect;
 ghost use mathlib.Core.Path.{_≡_};
 ghost use Rattle.engine.specs.Step.{siteOf, lostOf, stageOf, workOf, goOnOf};
 
-pub fn site_of(work: Work) -> Site
+pub(crate) fn site_of(work: Work) -> Site
     ensures { λ r. ⌜ r ≡ siteOf work ⌝ }
 {
     match work {
