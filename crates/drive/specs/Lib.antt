@@ -1,2 +1,4 @@
 pub mod Drive
+pub mod Due
+pub mod Examples
 pub mod Step

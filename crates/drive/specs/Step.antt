@@ -59,29 +59,37 @@ recalibrated number d =
       motion = Still;
     }
 
--- one step; the last one ends it
-unfoldable pub seekStep : ℕ → Bool → ℕ → ℕ → ℕ → Drive → Drive
-seekStep number mounted ticks target steps d =
+-- 01 Stepping: a step, after which T ticks lead to the next one; the last one ends it. A Seek and a Recalibrate differ in how
+-- they go on, how they end, and which way they go
+abbrev pub onStep : (ℕ → ℕ → Motion) → (Drive → Drive) → Bool → ℕ → Bool → ℕ → ℕ → Drive → Drive
+onStep on end goesIn number mounted ticks steps d =
     cond (leb steps 1)
-    (sought number target (stepped number mounted (ltb (d .pcn) target) d))
-    (moving (Seeking target (steps - 1) ticks) (stepped number mounted (ltb (d .pcn) target) d))
-
-unfoldable pub recalibrateStep : ℕ → Bool → ℕ → ℕ → Drive → Drive
-recalibrateStep number mounted ticks steps d =
-    cond (leb steps 1)
-    (recalibrated number (stepped number mounted false d))
-    (moving (Recalibrating (steps - 1) ticks) (stepped number mounted false d))
+    (end (stepped number mounted goesIn d))
+    (moving (on (steps - 1) ticks) (stepped number mounted goesIn d))
 
 -- a tick of waiting, or the step that is due, or the end where none was
+abbrev pub onTick : (ℕ → ℕ → Motion) → (Drive → Drive) → Bool → ℕ → Bool → ℕ → ℕ → ℕ → Drive → Drive
+onTick on end goesIn number mounted ticks steps wait d =
+    cond (ltb 1 wait) (moving (on steps (wait - 1)) d)
+    (cond (eqb steps 0) (end d) (onStep on end goesIn number mounted ticks steps d))
+
+-- 01 Stepping: from PCN towards NCN
+unfoldable pub seekStep : ℕ → Bool → ℕ → ℕ → ℕ → Drive → Drive
+seekStep number mounted ticks target steps d =
+    onStep (Seeking target) (sought number target) (ltb (d .pcn) target) number mounted ticks steps d
+
 unfoldable pub seekTick : ℕ → Bool → ℕ → ℕ → ℕ → ℕ → Drive → Drive
 seekTick number mounted ticks target steps wait d =
-    cond (ltb 1 wait) (moving (Seeking target steps (wait - 1)) d)
-    (cond (eqb steps 0) (sought number target d) (seekStep number mounted ticks target steps d))
+    onTick (Seeking target) (sought number target) (ltb (d .pcn) target) number mounted ticks steps wait d
+
+-- 01 Stepping: Recalibrate steps out
+unfoldable pub recalibrateStep : ℕ → Bool → ℕ → ℕ → Drive → Drive
+recalibrateStep number mounted ticks steps d =
+    onStep Recalibrating (recalibrated number) false number mounted ticks steps d
 
 unfoldable pub recalibrateTick : ℕ → Bool → ℕ → ℕ → ℕ → Drive → Drive
 recalibrateTick number mounted ticks steps wait d =
-    cond (ltb 1 wait) (moving (Recalibrating steps (wait - 1)) d)
-    (cond (eqb steps 0) (recalibrated number d) (recalibrateStep number mounted ticks steps d))
+    onTick Recalibrating (recalibrated number) false number mounted ticks steps wait d
 
 unfoldable pub tickIn : Motion → ℕ → Bool → ℕ → Drive → Drive
 tickIn Still number mounted ticks d = d

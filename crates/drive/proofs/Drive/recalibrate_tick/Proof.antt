@@ -2,13 +2,13 @@
 -- Assumes nothing.
 use borrow.Author.Tests.{ltb-true}
 use native.Mathlib.Omega.{arith}
-use Rattle.drive.specs.Step.{recalibrateTick}
+use Rattle.drive.specs.Step.{recalibrateTick, recalibrateStep}
 use borrow.Author.Needs.{needs}
 use Rattle.drive.proofs.Drive.recalibrate_tick.Statement.{statement}
 use Rattle.drive.proofs.Drive.recalibrate_tick.Tie as tie
 
 pub recalibrate-tick-spec : {M : Type 1} → statement M
-unfolding recalibrateTick
+unfolding recalibrateTick recalibrateStep
 recalibrate-tick-spec =
     tie.close
     (tie.spec

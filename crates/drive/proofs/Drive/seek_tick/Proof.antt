@@ -2,13 +2,13 @@
 -- Assumes nothing.
 use borrow.Author.Tests.{ltb-true}
 use native.Mathlib.Omega.{arith}
-use Rattle.drive.specs.Step.{seekTick}
+use Rattle.drive.specs.Step.{seekTick, seekStep}
 use borrow.Author.Needs.{needs}
 use Rattle.drive.proofs.Drive.seek_tick.Statement.{statement}
 use Rattle.drive.proofs.Drive.seek_tick.Tie as tie
 
 pub seek-tick-spec : {M : Type 1} → statement M
-unfolding seekTick
+unfolding seekTick seekStep
 seek-tick-spec =
     tie.close
     (tie.spec

@@ -1,0 +1,7 @@
+-- 01 Example 7, by computation.
+-- Assumes nothing.
+use mathlib.Core.Path.{refl}
+use Rattle.drive.specs.Examples.{Examples}
+
+pub examples : Examples
+examples = record { ex7-from-79 = refl; ex7-from-80 = refl; ex7-head = refl }
