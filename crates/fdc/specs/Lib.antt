@@ -5,4 +5,5 @@ pub mod Data
 pub mod Record
 pub mod Registers
 pub mod Reset
+pub mod Runs
 pub mod Ticks
