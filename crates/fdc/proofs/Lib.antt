@@ -1,2 +1,3 @@
 pub mod GoodLaws
+pub mod MoveLaws
 pub mod ValidLaws
