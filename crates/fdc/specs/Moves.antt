@@ -1,16 +1,18 @@
 -- Seek and Recalibrate over lists of calls: document 01, Stepping. What is counted are ticks; between them any calls may come
 -- that are no power-on and no reset.
 -- Assumes nothing.
-use Prim.Native.Nat.{ℕ, _+_, _/_}
+use Prim.Native.Nat.{ℕ, _+_, _-_, _/_, _<_}
 use mathlib.Core.Bool.{false}
 use mathlib.Core.List.{List, [], _∷_}
 use mathlib.Core.Path.{_≡_}
 use lib.Dec.{eqb}
 use Rattle.chip.specs.Stepping.{stepTicks}
 use Rattle.drive.specs.declared.Drive.{Drive}
+use Rattle.fdc.specs.declared.record.Controller.{Controller}
 use Rattle.fdc.specs.declared.record.Registers.{Registers}
+use Rattle.fdc.specs.Record.{driveAt}
 use Rattle.fdc.specs.Registers.{heldIn}
-use Rattle.fdc.specs.Runs.{Call, powers, reads, writes, takes, gives, ticks, notes}
+use Rattle.fdc.specs.Runs.{Call, powers, reads, writes, takes, gives, ticks, notes, after, runCalls}
 
 -- no power-on, no DOR with bit 2 low, no DSR with bit 7
 abbrev pub Calm : Call → Type 0
@@ -52,3 +54,11 @@ pub record Same (d e : Drive) : Type 0 where
   pub busy : e .busy ≡ d .busy
   pub report : e .report ≡ d .report
   pub motion : e .motion ≡ d .motion
+
+-- 01 Stepping: over at exactly that many ticks: before, after any calm list with fewer ticks, it goes on with the rest due; and
+-- the tick that makes up the number ends it
+pub record OnTime (going : ℕ → Drive → Type 0) (over : Drive → Type 0) (k due : ℕ) (c : Controller) : Type 0 where
+  pub before : (calls : List Call) → AllCalm calls → tickCount calls < due
+      → going (due - tickCount calls) (driveAt k (runCalls calls c .drives))
+  pub last : (calls : List Call) → AllCalm calls → tickCount calls + 1 ≡ due → (a b : List ℕ)
+      → over (driveAt k (after (ticks a b) (runCalls calls c) .drives))
