@@ -1,3 +1,5 @@
 pub mod GoodLaws
 pub mod MoveLaws
+pub mod ResetLaws
+pub mod SeekLaws
 pub mod ValidLaws

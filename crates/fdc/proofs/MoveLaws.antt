@@ -48,7 +48,7 @@ same-refl : (d : Drive) → Same d d
 same-refl d = record { head = refl; pcn = refl; busy = refl; report = refl; motion = refl }
 
 -- what goes on goes on in a drive that is the same but for its change flag
-goes-same : (on : ℕ → ℕ → Motion) (goesIn : Bool) (number step pcn final due : ℕ) (d e : Drive) → Same d e
+pub goes-same : (on : ℕ → ℕ → Motion) (goesIn : Bool) (number step pcn final due : ℕ) (d e : Drive) → Same d e
     → Goes on goesIn number step pcn final due d → Goes on goesIn number step pcn final due e
 goes-same on goesIn number step pcn final due d e s g = record {
   steps = g .steps;

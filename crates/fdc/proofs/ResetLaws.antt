@@ -1,0 +1,44 @@
+-- Laws of the software reset (01 Registers reset; 01 Easy 3, "PCN taken for the head: after reset they differ").
+-- Assumes nothing.
+use Prim.Native.Nat.{ℕ, zero, suc, _+_, _/_, _<_}
+use native.Mathlib.Omega.{arith}
+use mathlib.Core.Bool.{Bool, true, false, not, _&&_}
+use mathlib.Core.Path.{_≡_, refl}
+use lib.Dec.{eqb}
+use Rattle.drive.specs.declared.Drive.{Drive}
+use Rattle.drive.specs.declared.Motion.the-variants.{Still}
+use Rattle.drive.specs.Drive.{reportedOf}
+use Rattle.drive.specs.Drive.{resetOf as resetDrive}
+use Rattle.fdc.specs.declared.record.Controller.{Controller}
+use Rattle.fdc.specs.Record.{driveAt, withDrives, withRegisters}
+use Rattle.fdc.specs.Registers.{heldIn}
+use Rattle.fdc.specs.Reset.{resetAll, resetOf, reportAll, releasedBy, releasedOf, withDor, withRate, wroteDor, wroteDsr}
+
+-- each drive after a reset: PCN 0, the head and the change flag as they were, nothing pending
+pub reset-drive : (k : ℕ) (c : Controller) → k < 4 → driveAt k (resetOf c .drives) ≡ resetDrive (driveAt k (c .drives))
+unfolding resetOf resetAll
+reset-drive zero c h = refl
+reset-drive (suc zero) c h = refl
+reset-drive (suc (suc zero)) c h = refl
+reset-drive (suc (suc (suc zero))) c h = refl
+reset-drive (suc (suc (suc (suc k)))) c h = absurd (omega arith)
+
+-- and after its release: with POLL 0 the report C0 + drive
+pub release-drive : (k : ℕ) (c : Controller) → k < 4 → c .registers .poll ≡ false
+    → driveAt k (releasedOf c .drives) ≡ reportedOf (0xC0 + k) (driveAt k (c .drives))
+unfolding releasedOf releasedBy reportAll withDrives
+release-drive zero c h p = simp p
+release-drive (suc zero) c h p = simp p
+release-drive (suc (suc zero)) c h p = simp p
+release-drive (suc (suc (suc zero))) c h p = simp p
+release-drive (suc (suc (suc (suc k)))) c h p = absurd (omega arith)
+
+-- 01 Easy 3: after a reset by DOR, PCN is 0 and the head is where it was
+module _ (k byte : ℕ) (c : Controller) (low : k < 4) (held : heldIn byte ≡ true) where
+  pub dor-reset-pcn : driveAt k (wroteDor byte c .drives) .pcn ≡ 0
+  unfolding wroteDor withDor withRegisters
+  dor-reset-pcn = simp (held, reset-drive k c low)
+
+  pub dor-reset-head : driveAt k (wroteDor byte c .drives) .head ≡ driveAt k (c .drives) .head
+  unfolding wroteDor withDor withRegisters
+  dor-reset-head = simp (held, reset-drive k c low)
