@@ -63,8 +63,3 @@ abbrev pub waitOf : Motion → ℕ
 waitOf Still = 0
 waitOf (Seeking target steps wait) = wait
 waitOf (Recalibrating steps wait) = wait
-
-abbrev pub movesIn : Motion → Bool
-movesIn Still = false
-movesIn (Seeking target steps wait) = true
-movesIn (Recalibrating steps wait) = true

@@ -16,7 +16,6 @@ ghost use Rattle.drive.specs.Drive.{
   recalibrateOf,
   recalibrateSteps,
   waitOf,
-  movesIn,
 };
 ghost use Rattle.drive.specs.Step.{
   inward,
@@ -355,13 +354,6 @@ impl Drive {
         let motion = self.motion;
         motion_wait(motion)
     }
-
-    pub fn moves(self) -> bool
-        ensures { λ r. ⌜ r ≡ movesIn (self .motion) ⌝ }
-    {
-        let motion = self.motion;
-        motion_moves(motion)
-    }
 }
 
 fn arrival(zero: bool) -> u8
@@ -382,19 +374,5 @@ fn motion_wait(motion: Motion) -> u16
             wait,
         } => wait,
         Motion::Recalibrating { steps: _, wait } => wait,
-    }
-}
-
-fn motion_moves(motion: Motion) -> bool
-    ensures { λ r. ⌜ r ≡ movesIn motion ⌝ }
-{
-    match motion {
-        Motion::Still => false,
-        Motion::Seeking {
-            target: _,
-            steps: _,
-            wait: _,
-        } => true,
-        Motion::Recalibrating { steps: _, wait: _ } => true,
     }
 }

@@ -40,9 +40,6 @@ module _ (c : Controller) (long : length (c .drives) ≡ 4) where
 -- 01 Stepping: in a reached record drive k has just accepted it. Its Specify byte is a byte
 module _ (k : ℕ) (low : k < 4) (c : Controller) (reached : Reached c) (byte : c .registers .spec1 < 256)
     (free : heldIn (c .registers .dor) ≡ false) (d : Drive) where
-  step : ℕ
-  step = stepTicks (c .registers .spec1 / 16)
-
   some : 1 ≤ stepTicks (c .registers .spec1 / 16)
   some = omega (arith, step-least (c .registers .spec1 / 16) (omega arith))
 

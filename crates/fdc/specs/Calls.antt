@@ -25,7 +25,7 @@ portOf n =
 unfoldable pub readReg : Port → Controller → Answer
 readReg None c = answerOf (Refused refusal.Port) c
 readReg Dor c = answerOf (Byte (c .registers .dor)) c
-readReg Tdr c = answerOf (Byte (c .registers .tdr)) c
+readReg Tdr c = answerOf (Byte (c .registers .tdr % 4)) c
 readReg Status c = answerOf (Byte (msrOf c)) c
 readReg Data c = readFifo c
 readReg Input c = answerOf (Byte (dirOf c)) c

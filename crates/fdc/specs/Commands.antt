@@ -37,7 +37,7 @@ use Rattle.fdc.specs.declared.record.Registers.{Registers}
 use Rattle.fdc.specs.declared.record.Phase.the-variants.{Idle, Gathering, Starting, Sensing, Answering}
 use Rattle.fdc.specs.declared.record.Controller.{Controller}
 use Rattle.fdc.specs.Record.{noBytes, driveAt, withRegisters, withBytes, withPhase, withDrive}
-use Rattle.fdc.specs.Registers.{anyBusy}
+use Rattle.fdc.specs.Registers.{anyBusy, reportAt}
 
 -- results wait; the command bytes have done their work
 unfoldable pub answeredOf : Bool → List ℕ → ℕ → Controller → Controller
@@ -102,19 +102,16 @@ configuredOf r byte track =
 unfoldable pub configureOf : Controller → Controller
 configureOf c = idledOf (withRegisters (configuredOf (c .registers) (commandByte 2 c) (commandByte 3 c)) c)
 
--- 01 Commands Sense Drive: ST3 at the next tick
+-- 01 Commands Sense Drive: ST3 at the next tick; side and drive are three bits
 unfoldable pub sensingOf : Controller → Controller
-sensingOf c = withPhase (Sensing (commandByte 1 c)) (idledOf c)
+sensingOf c = withPhase (Sensing (commandByte 1 c % 8)) (idledOf c)
 
 abbrev pub lowest : Bool → Bool → Bool → Bool → ℕ
 lowest a b c d = cond a 0 (cond b 1 (cond c 2 (cond d 3 4)))
 
-abbrev reports : ℕ → List Drive → Bool
-reports k drives = not (eqb (driveAt k drives .report) 0)
-
 -- the lowest drive with a report, or 4
 unfoldable pub reporterOf : List Drive → ℕ
-reporterOf drives = lowest (reports 0 drives) (reports 1 drives) (reports 2 drives) (reports 3 drives)
+reporterOf drives = lowest (reportAt 0 drives) (reportAt 1 drives) (reportAt 2 drives) (reportAt 3 drives)
 
 -- 01 Commands Sense Interrupt: ST0, PCN: the report of the lowest drive, whose busy bit is cleared; with none 80 alone
 unfoldable pub sensedOf : Controller → Controller

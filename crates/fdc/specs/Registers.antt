@@ -3,7 +3,7 @@
 use Prim.Native.Nat.{ℕ, _+_, _*_, _/_, _%_, _^_}
 use mathlib.Core.Bool.{Bool, true, false, not, _&&_, _||_, cond}
 use mathlib.Core.List.{List}
-use lib.Dec.{eqb}
+use lib.Dec.{eqb, leb}
 use Rattle.drive.specs.declared.Drive.{Drive}
 use Rattle.engine.specs.declared.flow.Flow.{Flow}
 use Rattle.engine.specs.declared.flow.Flow.the-variants.{Quiet, ToHost, FromHost}
@@ -33,7 +33,8 @@ bit on = cond on 1 0
 abbrev busyAt : ℕ → List Drive → Bool
 busyAt k drives = driveAt k drives .busy
 
-abbrev reportAt : ℕ → List Drive → Bool
+-- a report is pending
+abbrev pub reportAt : ℕ → List Drive → Bool
 reportAt k drives = not (eqb (driveAt k drives .report) 0)
 
 -- 01 Registers MSR: the low four bits are the busy drives
@@ -105,10 +106,11 @@ intOf c =
 unfoldable pub drqOf : Controller → Bool
 drqOf c = gateIn (c .registers .dor) && dmaIn (c .registers .spec2) && phaseAsks (c .phase) (c .fifo .asks)
 
--- 01 Registers DIR: bit 7 is the change flag of the drive in DOR if its motor bit is on (drives 2 and 3 never lose theirs),
--- other bits 0 (house)
+-- 01 Registers DIR: bit 7 is the change flag of the drive in DOR if its motor bit is on (drives 2 and 3: always on), other
+-- bits 0 (house)
 unfoldable pub dirOf : Controller → ℕ
 dirOf c =
     cond
-    (motorIn (c .registers .dor) (c .registers .dor) && driveAt (c .registers .dor % 4) (c .drives) .changed)
+    (motorIn (c .registers .dor) (c .registers .dor)
+    && (leb 2 (c .registers .dor % 4) || driveAt (c .registers .dor % 4) (c .drives) .changed))
     0x80 0x00

@@ -1,7 +1,7 @@
 -- Writes to DOR, TDR, DSR and CCR, and the software reset: document 01, Registers.
 -- Assumes nothing.
 use Prim.Native.Nat.{ℕ, _/_, _%_}
-use mathlib.Core.Bool.{Bool, true, not, _&&_, cond}
+use mathlib.Core.Bool.{Bool, not, _&&_, cond}
 use mathlib.Core.List.{List, [], _∷_}
 use lib.Dec.{eqb}
 use Rattle.chip.specs.Fifo.{emptied}
@@ -11,7 +11,7 @@ use Rattle.drive.specs.Drive.{resetOf as resetDrive}
 use Rattle.fdc.specs.declared.record.Registers.{Registers}
 use Rattle.fdc.specs.declared.record.Phase.the-variants.{Idle}
 use Rattle.fdc.specs.declared.record.Controller.{Controller}
-use Rattle.fdc.specs.Record.{noBytes, driveAt, withRegisters, withDrives}
+use Rattle.fdc.specs.Record.{freshRegisters, noBytes, driveAt, withRegisters, withDrives}
 use Rattle.fdc.specs.Registers.{heldIn}
 
 -- 01 Registers reset: EFIFO, FIFOTHR, PRETRK take power-on values; all else stays, EIS and POLL too
@@ -24,10 +24,10 @@ resetFifoPart r =
       spec1 = r .spec1;
       spec2 = r .spec2;
       eis = r .eis;
-      efifo = true;
+      efifo = freshRegisters .efifo;
       poll = r .poll;
-      fifothr = 0;
-      pretrk = 0;
+      fifothr = freshRegisters .fifothr;
+      pretrk = freshRegisters .pretrk;
     }
 
 unfoldable pub resetAll : List Drive → List Drive

@@ -6,7 +6,6 @@ use mathlib.Core.List.{List, [], _∷_}
 use lib.Dec.{eqb, ltb}
 use Rattle.chip.specs.declared.fifo.Fifo.{Fifo}
 use Rattle.chip.specs.declared.refusal.Refusal.the-variants.{Damaged}
-use Rattle.chip.specs.Stepping.{stepTicks}
 use Rattle.drive.specs.declared.Drive.{Drive}
 use Rattle.drive.specs.Step.{tickOf as tickDrive}
 use Rattle.engine.specs.declared.order.Order.{Order}
@@ -29,7 +28,7 @@ use Rattle.fdc.specs.declared.answer.Answer.{Answer}
 use Rattle.fdc.specs.declared.answer.Reply.{Reply}
 use Rattle.fdc.specs.declared.answer.Reply.the-variants.{Done, Refused}
 use Rattle.fdc.specs.Answer.{answerOf}
-use Rattle.fdc.specs.Commands.{answeredOf, saidOf}
+use Rattle.fdc.specs.Commands.{answeredOf, saidOf, ticksOf}
 use Rattle.fdc.specs.Record.{driveAt, validOf, withDrives, withFifo, withPhase}
 use Rattle.fdc.specs.Registers.{heldIn, motorIn}
 
@@ -59,7 +58,7 @@ unfoldable pub steppedOf : List ℕ → List ℕ → Controller → Controller
 steppedOf a b c =
     withDrives
     (tickAll (c .drives) (presentIn (seenOf (c .registers .dor) 0 a)) (presentIn (seenOf (c .registers .dor) 1 b))
-    (stepTicks (c .registers .spec1 / 16)))
+    (ticksOf c))
     c
 
 -- 01 Commands Sense Drive: write protect 40, track 0 10 (the head at 0, never for drives 2 and 3), 28 always, side and drive

@@ -261,7 +261,8 @@ impl Controller {
         ensures { λ r. ⌜ r ≡ sensingOf self ⌝ }
     {
         let bytes = self.bytes;
-        self.idled().with_phase(Phase::Sensing(bytes.command[1]))
+        self.idled()
+            .with_phase(Phase::Sensing(bytes.command[1] % 8))
     }
 
     // The report of the lowest drive and its PCN; with none 80 alone.
@@ -364,7 +365,7 @@ impl Controller {
         self.carry_out(kind)
     }
 
-    pub fn gathered(self, byte: u8) -> Controller
+    pub(crate) fn gathered(self, byte: u8) -> Controller
         requires { ⌜ self .bytes .gathered ≤ 9 ⌝ }
         ensures { λ r. ⌜ r ≡ gatheredOf byte self ⌝ }
     {
@@ -393,7 +394,7 @@ impl Controller {
     }
 
     // The first byte of a command.
-    pub fn begin(self, byte: u8) -> Controller
+    pub(crate) fn begin(self, byte: u8) -> Controller
         requires { ⌜ self .bytes .gathered ≤ 9 ⌝ }
         ensures { λ r. ⌜ r ≡ begunOf byte self ⌝ }
     {

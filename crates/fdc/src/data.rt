@@ -169,7 +169,7 @@ impl Controller {
     }
 
     // RQM is 1 and DIO 0.
-    pub fn write_fifo(self, byte: u8) -> Answer
+    pub(crate) fn write_fifo(self, byte: u8) -> Answer
         requires { ⌜ self .bytes .gathered ≤ 9 ⌝ }
         ensures { λ r. ⌜ r ≡ writeFifo byte self ⌝ }
     {

@@ -227,6 +227,6 @@ impl Controller {
     {
         let dor = self.registers.dor;
         let d = self.drive(dor);
-        bit_seven(motor(dor, dor) & d.changed)
+        bit_seven(motor(dor, dor) & ((2 <= dor % 4) | d.changed))
     }
 }

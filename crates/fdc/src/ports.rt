@@ -36,14 +36,14 @@ impl Controller {
         match port {
             Port::None => self.answer(Reply::Refused(Refusal::Port)),
             Port::Dor => self.answer(Reply::Byte(self.registers.dor)),
-            Port::Tdr => self.answer(Reply::Byte(self.registers.tdr)),
+            Port::Tdr => self.answer(Reply::Byte(self.registers.tdr % 4)),
             Port::Status => self.answer(Reply::Byte(self.msr())),
             Port::Data => self.read_fifo(),
             Port::Input => self.answer(Reply::Byte(self.dir())),
         }
     }
 
-    pub fn write_register(self, port: Port, byte: u8) -> Answer
+    pub(crate) fn write_register(self, port: Port, byte: u8) -> Answer
         requires { ⌜ self .bytes .gathered ≤ 9 ⌝ }
         ensures { λ r. ⌜ r ≡ writeReg port byte self ⌝ }
     {

@@ -52,7 +52,7 @@ pub enum Phase {
     // A data command, Read ID or Format before its first tick, and from it on.
     Starting(Order),
     Working(Work),
-    // Sense Drive, with its second byte.
+    // Sense Drive, with its side and drive bits.
     Sensing(u8),
     // Whether INT is on: the result of a data command, Read ID or Format with no byte taken yet.
     Answering(bool),

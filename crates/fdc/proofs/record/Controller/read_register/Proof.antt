@@ -15,7 +15,7 @@ read-register-spec =
     (λ c κs. search needs) (λ c. search needs) (λ c κs. search needs) (λ c κs. search needs)
     (λ c. rw (c .before .enum-told .given .1) (c .answer .ensures))
     (λ c. rw (c .before .enum-told2 .given .1) (c .answer2 .ensures))
-    (λ c. rw (c .before .enum-told3 .given .1) (c .answer3 .ensures))
+    (λ c. rw (c .before .before .enum-told3 .given .1) (c .answer3 .ensures))
     (λ c. rw (c .before .before .enum-told4 .given .1, ← c .before .msr .ensures) (c .answer4 .ensures))
     (λ c. rw (c .before .enum-told5 .given .1) (c .read-fifo .ensures))
     (λ c. rw (c .before .before .enum-told6 .given .1, ← c .before .dir .ensures) (c .answer5 .ensures)))
