@@ -1,7 +1,6 @@
 -- Lines of a log and what they say, computed by the definitions of specs/.
 -- Assumes nothing.
-use Prim.Native.Nat.{ℕ}
-use mathlib.Core.List.{List, [], _∷_}
+use mathlib.Core.List.{[], _∷_}
 use mathlib.Core.Path.{_≡_, refl}
 use Rattle.log.specs.declared.line.Expected.the-variants as expected
 use Rattle.log.specs.declared.line.Line.the-variants.{Nothing, Read, Write, Malformed}

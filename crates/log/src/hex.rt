@@ -2,7 +2,6 @@
 use crate::words::Word;
 use crate::words::byte_at;
 ghost use mathlib.Core.Path.{_≡_};
-ghost use Prim.Native.Nat.{_≤_};
 ghost use Rattle.log.specs.Hex.{hexOf, letterOf, numberOf, numberIn};
 
 pub enum Number {

@@ -3,7 +3,6 @@
 use Rattle.log.specs.Gather.{lineWithin}
 use lib.Seq.{length-take-le}
 use mathlib.Core.Path.{sym}
-use native.Mathlib.Omega.{arith}
 use borrow.Author.Tests.{lt-ltb, le-ltb}
 use borrow.Author.Needs.{needs}
 use Rattle.log.proofs.gather.line_within.Statement.{statement}
