@@ -1,0 +1,4 @@
+pub mod Examples
+pub mod GatherLaws
+pub mod HexLaws
+pub mod WordLaws

@@ -1,0 +1,14 @@
+-- `log::words::byte_at` meets its contract: past the end the list has its default too.
+-- Assumes nothing.
+use mathlib.Core.Path.{sym}
+use lib.ListN.{List·getD-eq-default}
+use borrow.Author.Needs.{needs}
+use Rattle.log.proofs.words.byte_at.Statement.{statement}
+use Rattle.log.proofs.words.byte_at.Tie as tie
+
+pub byte-at-spec : {M : Type 1} → statement M
+byte-at-spec =
+    tie.close
+    (tie.spec
+    (λ c. search needs) (λ c. search needs)
+    (λ c. sym (List·getD-eq-default (c .before .args .s .now) 0 (c .if1 .left))))

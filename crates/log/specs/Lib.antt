@@ -1,0 +1,4 @@
+pub mod Gather
+pub mod Hex
+pub mod Line
+pub mod Words
