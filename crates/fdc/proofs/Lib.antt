@@ -1,3 +1,5 @@
+pub mod AnswerLaws
+pub mod Examples
 pub mod GoodLaws
 pub mod MoveLaws
 pub mod ResetLaws

@@ -2,6 +2,7 @@ pub mod Answer
 pub mod Calls
 pub mod Commands
 pub mod Data
+pub mod Examples
 pub mod Moves
 pub mod Record
 pub mod Registers
