@@ -30,5 +30,18 @@ use Rattle.fdc.specs.Runs.{answerTo, runCalls}
 use Rattle.fdc.specs.Ticks.{seenOf, tickAll, steppedOf, st3Of, sensedAt, stillOf, settledOf, decidedOf, startOf as fdc·startOf, workOf as fdc·workOf, decideIn, decideOf, ruledOf, tickOf as fdc·tickOf, imageAfter}
 
 pub examples : Examples
-unfolding headerIn geometryIn diskIn sizeOf trackLength lengthOf trackAt offsetOf sameOf markOf kindOf entryOf kindNumbered knownBelow filledOf takenOf openedOf givenOf drawnOf advancedOf nextOf stepped sought recalibrated seekStep seekTick recalibrateStep recalibrateTick tickIn tickOf gateOf givenId movingOf startOf enteredOf beginOf followedOf followOf turnOf formatEnd formAwait addressPut addressOf clearOn formedOf fillOf clearOf formOf overrun readOn readOf drainedOf drainOf noIdOf noIdHere idHere identifiedOf identifyOf endOf moveEnd moveFails notFound missedOf readFound dataFound bareFound lookedOf searchOf lostOf stageOf workOf goOnOf hasTrack staysOf markPlace dataPlace underrun awaitOf putOf dryOf writtenOf storeOf answerOf portOf readReg writeReg powerOn readPort writePort dmaRead dmaWrite noteChange answeredOf saidOf saidTwo idledOf specifyOf configureOf sensingOf reporterOf sensedOf soughtOf recalibratedOf moveOrder formatOrder identifyOrder startedOf ranOf runOf gatheredOf goesOn begunOf resultTaken readIn readFifo offeredOf writeFifo dmaReadOf dmaWriteOf freshOf withRegisters withDrives withFifo withBytes withPhase withDrive validOf motorIn busyBits anyBusy pendingIn msrOf intOf drqOf dirOf resetAll resetOf reportAll releasedBy releasedOf withDor withTdr withRate wroteDor wroteDsr answerTo runCalls seenOf tickAll steppedOf st3Of sensedAt stillOf settledOf decidedOf fdc·startOf fdc·workOf decideIn decideOf ruledOf fdc·tickOf imageAfter
+unfolding headerIn geometryIn diskIn sizeOf trackLength lengthOf trackAt offsetOf sameOf markOf kindOf entryOf
+    kindNumbered knownBelow filledOf takenOf openedOf givenOf drawnOf advancedOf nextOf stepped sought recalibrated
+    seekStep seekTick recalibrateStep recalibrateTick tickIn tickOf gateOf givenId movingOf startOf enteredOf
+    beginOf followedOf followOf turnOf formatEnd formAwait addressPut addressOf clearOn formedOf fillOf clearOf
+    formOf overrun readOn readOf drainedOf drainOf noIdOf noIdHere idHere identifiedOf identifyOf endOf moveEnd
+    moveFails notFound missedOf readFound dataFound bareFound lookedOf searchOf lostOf stageOf workOf goOnOf
+    hasTrack staysOf markPlace dataPlace underrun awaitOf putOf dryOf writtenOf storeOf answerOf portOf readReg
+    writeReg powerOn readPort writePort dmaRead dmaWrite noteChange answeredOf saidOf saidTwo idledOf specifyOf
+    configureOf sensingOf reporterOf sensedOf soughtOf recalibratedOf moveOrder formatOrder identifyOrder startedOf
+    ranOf runOf gatheredOf goesOn begunOf resultTaken readIn readFifo offeredOf writeFifo dmaReadOf dmaWriteOf
+    freshOf withRegisters withDrives withFifo withBytes withPhase withDrive validOf motorIn busyBits anyBusy
+    pendingIn msrOf intOf drqOf dirOf resetAll resetOf reportAll releasedBy releasedOf withDor withTdr withRate
+    wroteDor wroteDsr answerTo runCalls seenOf tickAll steppedOf st3Of sensedAt stillOf settledOf decidedOf
+    fdc·startOf fdc·workOf decideIn decideOf ruledOf fdc·tickOf imageAfter
 examples = record { port-log = refl; ex8 = refl; ex9 = refl }

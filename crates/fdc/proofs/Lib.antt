@@ -5,3 +5,4 @@ pub mod MoveLaws
 pub mod ResetLaws
 pub mod SeekLaws
 pub mod ValidLaws
+pub mod Whole

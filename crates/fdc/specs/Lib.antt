@@ -9,3 +9,4 @@ pub mod Registers
 pub mod Reset
 pub mod Runs
 pub mod Ticks
+pub mod Whole
