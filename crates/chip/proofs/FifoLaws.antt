@@ -251,7 +251,8 @@ held-tells efifo f g p q e asks tc =
     rw (← b, ← n, ← asks, ← tc) in
     r
 
--- What the laws ask for is met: a byte to the host at the highest threshold and taken; a byte from it with the FIFO off.
+-- What the laws ask for is met: a byte to the host at the highest threshold and taken; a byte from it with the FIFO
+-- off.
 
 pub read-run : takenOf false (filledOf false 15 false 7 emptied) ≡ emptied
 unfolding takenOf filledOf

@@ -38,14 +38,19 @@ module _ (d : Drive) (w : Within d) where
   within-seek target ticks h = record { head = w .head; count = first-wait-le (distance (d .pcn) target) ticks h }
 
   pub within-recalibrate : (number ticks : ℕ) → ticks ≤ 1000 → Within (recalibrateOf number ticks d)
-  within-recalibrate number ticks h = record { head = w .head; count = first-wait-le (recalibrateSteps number (d .head)) ticks h }
+  within-recalibrate number ticks h = record {
+    head = w .head;
+    count = first-wait-le (recalibrateSteps number (d
+        .head)) ticks h;
+  }
 
   moved-le : (number : ℕ) (goesIn : Bool) → moved number goesIn (d .head) ≤ 81
   moved-le number goesIn =
       by-test (leb 2 number) (λ (n : ℕ). n ≤ 81) _ _
       (λ _. w .head)
       (λ _. by-test goesIn (λ (n : ℕ). n ≤ 81) _ _
-      (λ _. by-test (ltb (d .head) 81) (λ (n : ℕ). n ≤ 81) _ _ (λ t. omega (arith, ltb-true (d .head) 81 t)) (λ _. w .head))
+      (λ _. by-test (ltb (d .head) 81) (λ (n : ℕ). n ≤ 81) _ _ (λ t. omega (arith, ltb-true (d .head) 81 t))
+      (λ _. w .head))
       (λ _. omega (arith, w .head)))
 
   within-stepped : (number : ℕ) (mounted goesIn : Bool) → Within (stepped number mounted goesIn d)
@@ -81,7 +86,8 @@ module _ (number : ℕ) (mounted : Bool) (ticks : ℕ) (short : ticks ≤ 1000) 
   within-in Still h = w
   within-in (Seeking target steps wait) h =
       by-test (ltb 1 wait) Within _ _ (λ _. within-moving d w _ (omega arith))
-      (λ _. by-test (eqb steps 0) Within _ _ (λ _. within-sought d w number target) (λ _. within-seek-step target steps))
+      (λ _. by-test (eqb steps 0) Within _ _ (λ _. within-sought d w number target)
+      (λ _. within-seek-step target steps))
   within-in (Recalibrating steps wait) h =
       by-test (ltb 1 wait) Within _ _ (λ _. within-moving d w _ (omega arith))
       (λ _. by-test (eqb steps 0) Within _ _ (λ _. within-recalibrated d w number) (λ _. within-recalibrate-step steps))

@@ -1,4 +1,5 @@
--- When a Seek or Recalibrate is over (01 Stepping): each tick takes one from the ticks due, and the last one due ends it.
+-- When a Seek or Recalibrate is over (01 Stepping): each tick takes one from the ticks due, and the last one due
+-- ends it.
 -- Assumes nothing.
 use Prim.Native.Nat.{ℕ, zero, suc, _+_, _*_, _-_, _%_, _≤_, _<_}
 use native.Mathlib.Nat.{suc-mul, mul-le-mul-right}
@@ -33,7 +34,8 @@ module _
     unfolding stepped
     goes-on due more g = go (ltb 1 (g .wait)) refl (g .steps) (g .left) (g .none) (g .head)
       where
-        go : (t : Bool) → ltb 1 (g .wait) ≡ t → (steps : ℕ) → dueOf ticks steps (g .wait) ≡ suc due → (steps ≡ 0 → g .wait ≡ 1)
+        go : (t : Bool) → ltb 1 (g .wait) ≡ t → (steps : ℕ) → dueOf ticks steps (g .wait) ≡ suc due
+            → (steps ≡ 0 → g .wait ≡ 1)
             → headAfter number goesIn steps (d .head) ≡ final
             → Goes on goesIn number ticks pcn final due
             (cond t (moving (on steps (g .wait - 1)) d)
@@ -74,7 +76,8 @@ module _
     unfolding stepped
     ends-now g = go (ltb 1 (g .wait)) refl (g .steps) (g .left) (g .none) (g .head)
       where
-        go : (t : Bool) → ltb 1 (g .wait) ≡ t → (steps : ℕ) → dueOf ticks steps (g .wait) ≡ 1 → (steps ≡ 0 → g .wait ≡ 1)
+        go : (t : Bool) → ltb 1 (g .wait) ≡ t → (steps : ℕ) → dueOf ticks steps (g .wait) ≡ 1
+            → (steps ≡ 0 → g .wait ≡ 1)
             → headAfter number goesIn steps (d .head) ≡ final
             → Arrives end pcn final
             (cond t (moving (on steps (g .wait - 1)) d)

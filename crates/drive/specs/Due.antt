@@ -1,5 +1,5 @@
--- When a Seek or Recalibrate is over, and where it leaves the head: document 01, Stepping, "The n-th step falls n times that
--- many ticks after the command; the last one ends it".
+-- When a Seek or Recalibrate is over, and where it leaves the head: document 01, Stepping, "The n-th step falls n
+-- times that many ticks after the command; the last one ends it".
 -- Assumes nothing.
 use Prim.Native.Nat.{ℕ, zero, suc, _+_, _*_, _-_, _%_, _≤_}
 use mathlib.Core.Bool.{Bool, true, false, _&&_, cond}

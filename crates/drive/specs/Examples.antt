@@ -1,5 +1,5 @@
--- 01 Example 7: Recalibrate drive 0 from 79: 20; from 80: 70, head 1. The report and the head at its end; that it ends so is
--- proofs/StepLaws.
+-- 01 Example 7: Recalibrate drive 0 from 79: 20; from 80: 70, head 1. The report and the head at its end; that it
+-- ends so is proofs/StepLaws.
 -- Assumes nothing.
 use mathlib.Core.Bool.{false}
 use mathlib.Core.Path.{_≡_}

@@ -59,8 +59,8 @@ recalibrated number d =
       motion = Still;
     }
 
--- 01 Stepping: a step, after which T ticks lead to the next one; the last one ends it. A Seek and a Recalibrate differ in how
--- they go on, how they end, and which way they go
+-- 01 Stepping: a step, after which T ticks lead to the next one; the last one ends it. A Seek and a Recalibrate
+-- differ in how they go on, how they end, and which way they go
 abbrev pub onStep : (ℕ → ℕ → Motion) → (Drive → Drive) → Bool → ℕ → Bool → ℕ → ℕ → Drive → Drive
 onStep on end goesIn number mounted ticks steps d =
     cond (leb steps 1)

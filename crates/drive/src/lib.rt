@@ -1,5 +1,5 @@
-// A drive's mechanics (01 Stepping): where its head stands, what the controller takes that to be, and a Seek or Recalibrate
-// going on. It knows nothing of ports, commands and images.
+// A drive's mechanics (01 Stepping): where its head stands, what the controller takes that to be, and a Seek or
+// Recalibrate going on. It knows nothing of ports, commands and images.
 ghost use mathlib.Core.Path.{_≡_};
 ghost use mathlib.Core.Bool.{cond};
 ghost use Prim.Native.Nat.{_-_, _≤_};
@@ -32,7 +32,8 @@ ghost use Rattle.drive.specs.Step.{
   tickOf,
 };
 
-// A Seek or Recalibrate going on: the steps still due, and the ticks until the next one, or until the end if none is due.
+// A Seek or Recalibrate going on: the steps still due, and the ticks until the next one, or until the end if none
+// is due.
 pub enum Motion {
     Still,
     Seeking { target: u8, steps: u8, wait: u16 },

@@ -1,4 +1,5 @@
--- 01 Contracts: two answers that a call's contract allows are equal: value, lines, record, and for the tick both images.
+-- 01 Contracts: two answers that a call's contract allows are equal: value, lines, record, and for the tick both
+-- images.
 -- Assumes nothing.
 use Prim.Native.Nat.{ℕ}
 use mathlib.Core.Bool.{Bool}

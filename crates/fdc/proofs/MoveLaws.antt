@@ -1,5 +1,5 @@
--- When a Seek or Recalibrate is over, over every list of calls (01 Stepping): n x T ticks after its acceptance, one where no
--- step is due, whatever calls come between that are no power-on and no reset.
+-- When a Seek or Recalibrate is over, over every list of calls (01 Stepping): n x T ticks after its acceptance, one
+-- where no step is due, whatever calls come between that are no power-on and no reset.
 -- Assumes nothing.
 use Prim.Native.Nat.{ℕ, zero, suc, _+_, _-_, _/_, _%_, _≤_, _<_}
 use native.Mathlib.Omega.{arith}

@@ -46,7 +46,8 @@ module _ (k : ℕ) (low : k < 4) (c : Controller) (reached : Reached c) (byte : 
   awake : Awake (stepTicks (c .registers .spec1 / 16)) (c .registers)
   awake = record { free = free; steps = refl }
 
-  -- a Seek is over at exactly n x T ticks, n = |NCN - PCN| (1 for none): PCN is NCN, the report 20 + drive, the head n steps on
+  -- a Seek is over at exactly n x T ticks, n = |NCN - PCN| (1 for none): PCN is NCN, the report 20 + drive, the
+  -- head n steps on
   pub seek-on-time : (target : ℕ) → driveAt k (c .drives) ≡ seekOf target (ticksOf c) d
       → OnTime
       (Seeks k (ticksOf c) (d .pcn) target (headAfter k (ltb (d .pcn) target) (distance (d .pcn) target) (d .head)))
@@ -64,7 +65,8 @@ module _ (k : ℕ) (low : k < 4) (c : Controller) (reached : Reached c) (byte : 
       (overAfter (distance (d .pcn) target) T) c
       (record { good = good-reached c reached; awake = awake; drive = rw e (seek-begins k T some d target) })
 
-  -- a Recalibrate likewise: out until the head is at 0, at most 79 times; PCN 0, the report by where the head then stands
+  -- a Recalibrate likewise: out until the head is at 0, at most 79 times; PCN 0, the report by where the head then
+  -- stands
   pub recalibrate-on-time : driveAt k (c .drives) ≡ recalibrateOf k (ticksOf c) d
       → OnTime
       (Recalibrates k (ticksOf c) (d .pcn) (headAfter k false (recalibrateSteps k (d .head)) (d .head)))

@@ -61,7 +61,13 @@ unfolding headerIn geometryIn diskIn sizeOf trackLength lengthOf trackAt offsetO
     pendingIn msrOf intOf drqOf dirOf resetAll resetOf reportAll releasedBy releasedOf withDor withTdr withRate
     wroteDor wroteDsr answerTo runCalls seenOf tickAll steppedOf st3Of sensedAt stillOf settledOf decidedOf
     fdc·startOf fdc·workOf decideIn decideOf ruledOf fdc·tickOf imageAfter
-turned-whole = record { both-side-0-first = refl; both-side-0-last = refl; both-side-1-first = refl; both-side-1-last = refl; both-result = refl }
+turned-whole = record {
+  both-side-0-first = refl;
+  both-side-0-last = refl;
+  both-side-1-first = refl;
+  both-side-1-last = refl;
+  both-result = refl;
+}
 
 pub cut-whole : CutWhole
 unfolding headerIn geometryIn diskIn sizeOf trackLength lengthOf trackAt offsetOf sameOf markOf kindOf entryOf

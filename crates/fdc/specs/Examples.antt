@@ -49,7 +49,9 @@ pub record Examples : Type 0 where
       ≡ said 0 0 ∷ said 0 0x80 ∷ said 0 0 ∷ said 0 0xD0 ∷ said 0 0x90 ∷ said 0 0x80 ∷ said 1 0 ∷ []
   -- 01 Example 8: Sense Drive, drive 0, side 0, head 0, unprotected: 38
   pub ex8 :
-      logOf (reads 5 ∷ []) (runCalls (writes 2 0x0C ∷ command (0x04 ∷ 0x00 ∷ []) ++ (bare ∷ [])) start) ≡ said 0 0x38 ∷ []
+      logOf (reads 5 ∷ [])
+      (runCalls (writes 2 0x0C ∷ command (0x04 ∷ 0x00 ∷ []) ++ (bare ∷ [])) start)
+      ≡ said 0 0x38 ∷ []
   -- 01 Example 9: Read, drive 0 empty: 40 01 00
   pub ex9 :
       logOf (reads 5 ∷ reads 5 ∷ reads 5 ∷ [])

@@ -1,5 +1,5 @@
--- Seek and Recalibrate over lists of calls: document 01, Stepping. What is counted are ticks; between them any calls may come
--- that are no power-on and no reset.
+-- Seek and Recalibrate over lists of calls: document 01, Stepping. What is counted are ticks; between them any
+-- calls may come that are no power-on and no reset.
 -- Assumes nothing.
 use Prim.Native.Nat.{ℕ, _+_, _-_, _/_, _<_}
 use mathlib.Core.Bool.{false}
@@ -55,8 +55,8 @@ pub record Same (d e : Drive) : Type 0 where
   pub report : e .report ≡ d .report
   pub motion : e .motion ≡ d .motion
 
--- 01 Stepping: over at exactly that many ticks: before, after any calm list with fewer ticks, it goes on with the rest due; and
--- the tick that makes up the number ends it
+-- 01 Stepping: over at exactly that many ticks: before, after any calm list with fewer ticks, it goes on with the
+-- rest due; and the tick that makes up the number ends it
 pub record OnTime (going : ℕ → Drive → Type 0) (over : Drive → Type 0) (k due : ℕ) (c : Controller) : Type 0 where
   pub before : (calls : List Call) → AllCalm calls → tickCount calls < due
       → going (due - tickCount calls) (driveAt k (runCalls calls c .drives))

@@ -37,7 +37,8 @@ freshRegisters =
 abbrev pub noBytes : Bytes
 noBytes = record { command = replicate 9 0; gathered = 0; results = replicate 7 0; left = 0 }
 
--- 01 Registers power-on: PCN 0, change flags on, and nothing going on; the heads of drives 0 and 1 stand where they stand
+-- 01 Registers power-on: PCN 0, change flags on, and nothing going on; the heads of drives 0 and 1 stand where they
+-- stand
 unfoldable pub freshOf : ℕ → ℕ → Controller
 freshOf head0 head1 =
     record {
@@ -93,8 +94,8 @@ headWithin k c = leb (driveAt k (c .drives) .head) 81
 abbrev countdownWithin : ℕ → Controller → Bool
 countdownWithin k c = leb (countdownOf (driveAt k (c .drives) .motion)) 1000
 
--- 01 Refusals 4: no FIFO count above its capacity, not over 9 command or 7 result bytes, no head above 81, FIFOTHR not above
--- 15, no wait above 64, no step countdown above 1000
+-- 01 Refusals 4: no FIFO count above its capacity, not over 9 command or 7 result bytes, no head above 81, FIFOTHR
+-- not above 15, no wait above 64, no step countdown above 1000
 unfoldable pub validOf : Controller → Bool
 validOf c =
     withinOf (c .registers .efifo) (c .fifo)

@@ -48,14 +48,15 @@ anyBusy drives = busyAt 0 drives || busyAt 1 drives || busyAt 2 drives || busyAt
 unfoldable pub pendingIn : List Drive → Bool
 pendingIn drives = reportAt 0 drives || reportAt 1 drives || reportAt 2 drives || reportAt 3 drives
 
--- 01 Registers MSR: 10 in DMA execution and through Read ID; non-DMA F0 or 70 to the host (request on or off), B0 or 30 from it
+-- 01 Registers MSR: 10 in DMA execution and through Read ID; non-DMA F0 or 70 to the host (request on or off), B0
+-- or 30 from it
 abbrev pub flowStatus : Flow → Bool → Bool → ℕ
 flowStatus Quiet dma asks = 0x10
 flowStatus ToHost dma asks = cond dma 0x10 (cond asks 0xF0 0x70)
 flowStatus FromHost dma asks = cond dma 0x10 (cond asks 0xB0 0x30)
 
--- 01 Registers MSR: 80 idle or only stepping; 90 when more command bytes are due; 10 before the tick that starts any execution
--- and through Sense Drive; D0 results waiting
+-- 01 Registers MSR: 80 idle or only stepping; 90 when more command bytes are due; 10 before the tick that starts
+-- any execution and through Sense Drive; D0 results waiting
 abbrev pub phaseStatus : Phase → Bool → Bool → ℕ
 phaseStatus Idle dma asks = 0x80
 phaseStatus (Gathering entry) dma asks = 0x90
@@ -93,8 +94,8 @@ loudIn (Working work) = false
 loudIn (Sensing unit) = false
 loudIn (Answering loud) = loud
 
--- 01 Registers INT: on while a drive report is pending, or such a result has no byte taken yet, or a non-DMA request is on;
--- off while the gate bit is 0
+-- 01 Registers INT: on while a drive report is pending, or such a result has no byte taken yet, or a non-DMA
+-- request is on; off while the gate bit is 0
 unfoldable pub intOf : Controller → Bool
 intOf c =
     gateIn (c .registers .dor)
@@ -106,8 +107,8 @@ intOf c =
 unfoldable pub drqOf : Controller → Bool
 drqOf c = gateIn (c .registers .dor) && dmaIn (c .registers .spec2) && phaseAsks (c .phase) (c .fifo .asks)
 
--- 01 Registers DIR: bit 7 is the change flag of the drive in DOR if its motor bit is on (drives 2 and 3: always on), other
--- bits 0 (house)
+-- 01 Registers DIR: bit 7 is the change flag of the drive in DOR if its motor bit is on (drives 2 and 3: always
+-- on), other bits 0 (house)
 unfoldable pub dirOf : Controller → ℕ
 dirOf c =
     cond

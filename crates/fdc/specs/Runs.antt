@@ -1,5 +1,5 @@
--- Lists of calls: document 01, Refusals, "over every list of calls, each handed the record that the one before gave". A tick
--- carries the two images that it is handed, whatever they hold.
+-- Lists of calls: document 01, Refusals, "over every list of calls, each handed the record that the one before
+-- gave". A tick carries the two images that it is handed, whatever they hold.
 -- Assumes nothing.
 use Prim.Native.Nat.{ℕ}
 use mathlib.Core.Bool.{Bool}

@@ -1,4 +1,5 @@
--- The tick: document 01, What the box models, Stepping, Commands (Sense Drive) and Data commands, whose rules are the engine's.
+-- The tick: document 01, What the box models, Stepping, Commands (Sense Drive) and Data commands, whose rules are
+-- the engine's.
 -- Assumes nothing.
 use Prim.Native.Nat.{ℕ, _+_, _/_, _%_}
 use mathlib.Core.Bool.{Bool, true, false, _&&_, cond}
@@ -61,7 +62,8 @@ steppedOf a b c =
     (ticksOf c))
     c
 
--- 01 Commands Sense Drive: write protect 40, track 0 10 (the head at 0, never for drives 2 and 3), 28 always, side and drive
+-- 01 Commands Sense Drive: write protect 40, track 0 10 (the head at 0, never for drives 2 and 3), 28 always, side
+-- and drive
 unfoldable pub st3Of : ℕ → Bool → ℕ → ℕ
 st3Of unit protect head = 0x28 + cond protect 0x40 0 + cond (ltb (unit % 4) 2 && eqb head 0) 0x10 0 + unit % 8
 

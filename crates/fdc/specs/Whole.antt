@@ -1,5 +1,5 @@
--- Whole commands, run on the definitions call by call, so that a reader sees them run: 01 Data commands. A host that serves
--- every request by DMA; the FIFO is off, as at power-on. The proofs are in proofs/Whole.antt.
+-- Whole commands, run on the definitions call by call, so that a reader sees them run: 01 Data commands. A host
+-- that serves every request by DMA; the FIFO is off, as at power-on. The proofs are in proofs/Whole.antt.
 -- Assumes nothing.
 use Prim.Native.Nat.{ℕ, zero, suc, _+_}
 use mathlib.Core.Bool.{Bool, true, false, _&&_}
@@ -83,7 +83,8 @@ readSector = given (0x46 ∷ 0 ∷ 0 ∷ 0 ∷ 1 ∷ 1 ∷ 2 ∷ 0x1B ∷ 0xFF �
 abbrev pub readBoth : Scene
 readBoth = given (0xC6 ∷ 0 ∷ 0 ∷ 0 ∷ 1 ∷ 1 ∷ 1 ∷ 0x1B ∷ 0xFF ∷ []) [] twoSides
 
--- the tests and the look that matches, 256 bytes, the look that finds the FIFO empty and turns, the turn's tests, its look
+-- the tests and the look that matches, 256 bytes, the look that finds the FIFO empty and turns, the turn's tests,
+-- its look
 abbrev pub turned : Scene
 turned = ticksOn 3 (readOut false 256 (ticksOn 2 readBoth))
 
@@ -127,7 +128,9 @@ pub record CutWhole : Type 0 where
 -- the read after it
 pub record ReadAfterCut : Type 0 where
   -- 40, ST1 20, ST2 20, the sector in hand
-  pub cut-read : ticksOn 1 (readOut false 256 (ticksOn 2 readAfter)) .box .bytes .results ≡ 0x40 ∷ 0x20 ∷ 0x20 ∷ 0 ∷ 0 ∷ 1 ∷ 1 ∷ []
+  pub cut-read :
+      ticksOn 1 (readOut false 256 (ticksOn 2 readAfter)) .box .bytes .results
+      ≡ 0x40 ∷ 0x20 ∷ 0x20 ∷ 0 ∷ 0 ∷ 1 ∷ 1 ∷ []
 
 -- a Format of one track
 pub record FormattedWhole : Type 0 where

@@ -1,5 +1,5 @@
-// The calls (01 Calls) but for the tick. Each takes any record and hands back the new one with its answer; refusal 4 comes
-// first (01 Form refusal).
+// The calls (01 Calls) but for the tick. Each takes any record and hands back the new one with its answer; refusal
+// 4 comes first (01 Form refusal).
 use crate::answer::Answer;
 use crate::answer::Reply;
 use crate::ports::port_of;

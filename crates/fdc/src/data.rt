@@ -1,4 +1,5 @@
-// The data register and the DMA cycles (01 Refusals 2 and 3; 01 FIFO): command bytes, results, and a command's own bytes.
+// The data register and the DMA cycles (01 Refusals 2 and 3; 01 FIFO): command bytes, results, and a command's own
+// bytes.
 use crate::answer::Answer;
 use crate::answer::Reply;
 use crate::lines::dma;

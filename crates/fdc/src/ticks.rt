@@ -1,5 +1,5 @@
-// The tick (01 Calls, Stepping, Data commands): the drives step, then the command at work decides from the record and the
-// image picked, and then its one store is made.
+// The tick (01 Calls, Stepping, Data commands): the drives step, then the command at work decides from the record
+// and the image picked, and then its one store is made.
 use crate::answer::Answer;
 use crate::answer::Reply;
 use crate::lines::held;

@@ -1,4 +1,5 @@
--- 01 Calls: "the image of the drive named is picked from the two lent. Only a tick changes an image, by at most one byte."
+-- 01 Calls: "the image of the drive named is picked from the two lent. Only a tick changes an image, by at most one
+-- byte."
 -- Assumes nothing.
 use Prim.Native.Nat.{ℕ}
 use mathlib.Core.Bool.{cond}

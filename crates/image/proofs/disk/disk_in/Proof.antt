@@ -1,4 +1,5 @@
--- `image::disk::disk_in` meets its contract: the test that led to each answer is the one that `diskIn` makes (01 Image mounted).
+-- `image::disk::disk_in` meets its contract: the test that led to each answer is the one that `diskIn` makes (01
+-- Image mounted).
 -- Assumes nothing.
 use Rattle.image.specs.Disk.{diskIn}
 use borrow.Author.Needs.{needs}

@@ -1,4 +1,5 @@
--- `image::disk::header_ok` meets its contract: each byte is what `byte_at` answers, and the ranges are those of `ranges`.
+-- `image::disk::header_ok` meets its contract: each byte is what `byte_at` answers, and the ranges are those of
+-- `ranges`.
 -- Assumes nothing.
 use Rattle.image.specs.Disk.{headerIn}
 use borrow.Author.Needs.{needs}

@@ -1,4 +1,5 @@
--- `image::layout::Geometry::offset` meets its contract: the tracks before any track, and the slots before any slot, fit.
+-- `image::layout::Geometry::offset` meets its contract: the tracks before any track, and the slots before any slot,
+-- fit.
 -- Assumes nothing.
 use Rattle.image.specs.Layout.{trackAt, offsetOf}
 use native.Mathlib.Nat.{mul-le-mul}
