@@ -40,8 +40,7 @@ module _ (d : Drive) (w : Within d) where
   pub within-recalibrate : (number ticks : ℕ) → ticks ≤ 1000 → Within (recalibrateOf number ticks d)
   within-recalibrate number ticks h = record {
     head = w .head;
-    count = first-wait-le (recalibrateSteps number (d
-        .head)) ticks h;
+    count = first-wait-le (recalibrateSteps number (d .head)) ticks h;
   }
 
   moved-le : (number : ℕ) (goesIn : Bool) → moved number goesIn (d .head) ≤ 81
