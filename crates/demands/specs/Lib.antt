@@ -1,0 +1,5 @@
+pub mod DataError
+pub mod EndsInTime
+pub mod History
+pub mod PowerCut
+pub mod Work
