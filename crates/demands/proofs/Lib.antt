@@ -1,1 +1,2 @@
 mod TickRules
+mod CallRules
