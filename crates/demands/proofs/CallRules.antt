@@ -6,8 +6,8 @@ use mathlib.Core.Bool.{Bool, true, false, _&&_}
 use mathlib.Core.Path.{_≡_}
 use Rattle.chip.specs.Fifo.{takenOf, givenOf}
 use Rattle.drive.specs.declared.Motion.the-variants.{Still}
-use Rattle.engine.specs.declared.order.Job.{Job}
-use Rattle.engine.specs.declared.order.Job.the-variants.{Identify, Move, Format}
+use Rattle.sectors.specs.declared.order.Job.{Job}
+use Rattle.sectors.specs.declared.order.Job.the-variants.{Identify, Move, Format}
 use Rattle.fdc.specs.declared.record.Controller.{Controller}
 use Rattle.fdc.specs.declared.record.Phase.{Phase}
 use Rattle.fdc.specs.declared.record.Phase.the-variants.{Idle, Gathering, Starting, Working, Sensing, Answering}

@@ -9,21 +9,21 @@ use lib.Dec.{eqb}
 use Rattle.chip.specs.declared.fifo.Fifo.{Fifo}
 use Rattle.chip.specs.Fifo.{frontOf, drawnOf, emptied}
 use Rattle.chip.specs.Next.{turned, advancedOf}
-use Rattle.engine.specs.declared.order.Pass.the-variants.{Read, Write}
-use Rattle.engine.specs.declared.work.Search.{Search}
-use Rattle.engine.specs.declared.work.Sector.{Sector}
-use Rattle.engine.specs.declared.work.Site.{Site}
-use Rattle.engine.specs.declared.work.Stage.{Stage}
-use Rattle.engine.specs.declared.work.Stage.the-variants.{Searching, Turning, Reading, Draining, Awaiting, Storing}
-use Rattle.engine.specs.declared.work.Step.{Step}
-use Rattle.engine.specs.declared.work.Task.{Task}
-use Rattle.engine.specs.declared.work.Then.the-variants.{Ends}
-use Rattle.engine.specs.declared.work.Verdict.{Verdict}
-use Rattle.engine.specs.Follow.{freshAt, withId, onSide}
-use Rattle.engine.specs.Result.{movesOf}
-use Rattle.engine.specs.Search.{slotOf, matches, withOther}
-use Rattle.engine.specs.Track.{nextSlot, markPlace, dataPlace, passBytes}
-use Rattle.engine.specs.Write.{writtenMark}
+use Rattle.sectors.specs.declared.order.Pass.the-variants.{Read, Write}
+use Rattle.sectors.specs.declared.work.Search.{Search}
+use Rattle.sectors.specs.declared.work.Sector.{Sector}
+use Rattle.sectors.specs.declared.work.Site.{Site}
+use Rattle.sectors.specs.declared.work.Stage.{Stage}
+use Rattle.sectors.specs.declared.work.Stage.the-variants.{Searching, Turning, Reading, Draining, Awaiting, Storing}
+use Rattle.sectors.specs.declared.work.Step.{Step}
+use Rattle.sectors.specs.declared.work.Task.{Task}
+use Rattle.sectors.specs.declared.work.Then.the-variants.{Ends}
+use Rattle.sectors.specs.declared.work.Verdict.{Verdict}
+use Rattle.sectors.specs.Follow.{freshAt, withId, onSide}
+use Rattle.sectors.specs.Result.{movesOf}
+use Rattle.sectors.specs.Search.{slotOf, matches, withOther}
+use Rattle.sectors.specs.Track.{nextSlot, markPlace, dataPlace, passBytes}
+use Rattle.sectors.specs.Write.{writtenMark}
 use Rattle.image.specs.declared.lent.Effect.{Effect}
 use Rattle.image.specs.declared.lent.Effect.the-variants.{Nothing, Store}
 use Rattle.image.specs.declared.mark.Mark.{Mark}

@@ -7,10 +7,10 @@ use mathlib.Core.List.{List, [], _∷_}
 use mathlib.Core.Logic.{_⊎_}
 use mathlib.Core.Path.{_≡_}
 use lib.ListN.{getD}
-use Rattle.engine.specs.declared.order.Job.the-variants.{Move}
-use Rattle.engine.specs.declared.order.Order.{Order}
-use Rattle.engine.specs.declared.order.Pass.the-variants.{Read}
-use Rattle.engine.specs.declared.order.Transfer.{Transfer}
+use Rattle.sectors.specs.declared.order.Job.the-variants.{Move}
+use Rattle.sectors.specs.declared.order.Order.{Order}
+use Rattle.sectors.specs.declared.order.Pass.the-variants.{Read}
+use Rattle.sectors.specs.declared.order.Transfer.{Transfer}
 use Rattle.image.specs.declared.disk.Disk.the-variants.{Present}
 use Rattle.image.specs.declared.layout.Geometry.{Geometry}
 use Rattle.image.specs.declared.slot.Id.{Id}

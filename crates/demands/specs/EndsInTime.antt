@@ -8,7 +8,7 @@ use mathlib.Core.List.{List}
 use mathlib.Core.Path.{_≡_}
 use Rattle.drive.specs.Drive.{distance, recalibrateSteps}
 use Rattle.drive.specs.Due.{Seeks, Recalibrates, Over, headAfter, overAfter, recalibrateReport}
-use Rattle.engine.specs.declared.order.Order.{Order}
+use Rattle.sectors.specs.declared.order.Order.{Order}
 use Rattle.image.specs.declared.disk.Disk.the-variants.{Absent, Present}
 use Rattle.image.specs.declared.layout.Geometry.{Geometry}
 use Rattle.image.specs.Disk.{diskIn}

@@ -9,10 +9,10 @@ use mathlib.Core.Path.{_≡_}
 use lib.Dec.{eqb}
 use lib.ListN.{length, getD}
 use Rattle.chip.specs.Next.{advancedOf}
-use Rattle.engine.specs.declared.order.Job.the-variants.{Move}
-use Rattle.engine.specs.declared.order.Order.{Order}
-use Rattle.engine.specs.declared.order.Pass.the-variants.{Write}
-use Rattle.engine.specs.declared.order.Transfer.{Transfer}
+use Rattle.sectors.specs.declared.order.Job.the-variants.{Move}
+use Rattle.sectors.specs.declared.order.Order.{Order}
+use Rattle.sectors.specs.declared.order.Pass.the-variants.{Write}
+use Rattle.sectors.specs.declared.order.Transfer.{Transfer}
 use Rattle.image.specs.declared.disk.Disk.the-variants.{Present}
 use Rattle.image.specs.declared.layout.Geometry.{Geometry}
 use Rattle.image.specs.declared.mark.Mark.the-variants.{Data}

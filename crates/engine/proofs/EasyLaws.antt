@@ -16,19 +16,19 @@ use Rattle.chip.specs.declared.next.Next.{Next}
 use Rattle.chip.specs.declared.next.Next.the-variants.{Ended, PastEot, OtherSide, SameSide}
 use Rattle.chip.specs.Next.{nextOf, advancedOf, addressOf}
 use Rattle.chip.proofs.NextLaws.{next-address, next-ended-tc}
-use Rattle.engine.specs.declared.work.Site.{Site}
-use Rattle.engine.specs.declared.work.Step.{Step}
-use Rattle.engine.specs.declared.work.Task.{Task}
-use Rattle.engine.specs.declared.work.Then.{Then}
-use Rattle.engine.specs.declared.work.Then.the-variants.{Ends, Works}
-use Rattle.engine.specs.declared.work.Verdict.{Verdict}
-use Rattle.engine.specs.declared.work.Work.{Work}
-use Rattle.engine.specs.declared.work.Work.the-variants.{Identifying, Moving, Formatting}
-use Rattle.engine.specs.Follow.{followedOf, followOf}
+use Rattle.sectors.specs.declared.work.Site.{Site}
+use Rattle.sectors.specs.declared.work.Step.{Step}
+use Rattle.sectors.specs.declared.work.Task.{Task}
+use Rattle.sectors.specs.declared.work.Then.{Then}
+use Rattle.sectors.specs.declared.work.Then.the-variants.{Ends, Works}
+use Rattle.sectors.specs.declared.work.Verdict.{Verdict}
+use Rattle.sectors.specs.declared.work.Work.{Work}
+use Rattle.sectors.specs.declared.work.Work.the-variants.{Identifying, Moving, Formatting}
+use Rattle.sectors.specs.Follow.{followedOf, followOf}
 use Rattle.engine.specs.ReadId.{noAddress}
-use Rattle.engine.specs.Result.{endOf, moveEnd, moveFails}
-use Rattle.engine.specs.Track.{dataPlace, passBytes}
-use Rattle.engine.specs.Write.{underrun, putOf, dryOf, storeOf}
+use Rattle.sectors.specs.Result.{endOf, moveEnd, moveFails}
+use Rattle.sectors.specs.Track.{dataPlace, passBytes}
+use Rattle.sectors.specs.Write.{underrun, putOf, dryOf, storeOf}
 
 -- the address of a result, or of the sector now in hand
 abbrev workId : Work → Id

@@ -7,14 +7,14 @@ use Rattle.image.specs.Layout.{sizeOf, trackLength, trackAt, offsetOf, sameOf}
 use Rattle.image.specs.Mark.{markOf}
 use Rattle.engine.specs.Examples.{Examples}
 use Rattle.engine.specs.First.{gateOf, givenId, movingOf, startOf, enteredOf, beginOf}
-use Rattle.engine.specs.Follow.{followedOf, followOf}
-use Rattle.engine.specs.Read.{overrun, readOn, readOf}
+use Rattle.sectors.specs.Follow.{followedOf, followOf}
+use Rattle.sectors.specs.Read.{overrun, readOn, readOf}
 use Rattle.engine.specs.ReadId.{identifyOf, identifiedOf, idHere}
-use Rattle.engine.specs.Result.{endOf, moveEnd, moveFails}
-use Rattle.engine.specs.Search.{notFound, missedOf, readFound, dataFound, lookedOf, searchOf}
+use Rattle.sectors.specs.Result.{endOf, moveEnd, moveFails}
+use Rattle.sectors.specs.Search.{notFound, missedOf, readFound, dataFound, lookedOf, searchOf}
 use Rattle.engine.specs.Step.{stageOf, workOf, goOnOf}
-use Rattle.engine.specs.Track.{hasTrack, staysOf, markPlace, dataPlace}
-use Rattle.engine.specs.Write.{awaitOf, putOf, writtenOf, storeOf}
+use Rattle.sectors.specs.Track.{hasTrack, staysOf, markPlace, dataPlace}
+use Rattle.sectors.specs.Write.{awaitOf, putOf, writtenOf, storeOf}
 
 pub examples : Examples
 unfolding beginOf enteredOf gateOf givenId startOf movingOf endOf hasTrack staysOf sameOf markPlace dataPlace

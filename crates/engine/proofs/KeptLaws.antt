@@ -25,38 +25,38 @@ use Rattle.engine.specs.declared.first.Gate.{Gate}
 use Rattle.engine.specs.declared.first.Gate.the-variants.{Shut, Open}
 use Rattle.engine.specs.declared.flow.Flow.{Flow}
 use Rattle.engine.specs.declared.flow.Flow.the-variants.{Quiet, FromHost}
-use Rattle.engine.specs.declared.order.Job.{Job}
-use Rattle.engine.specs.declared.order.Job.the-variants.{Identify, Move, Format}
-use Rattle.engine.specs.declared.order.Order.{Order}
-use Rattle.engine.specs.declared.order.Pass.{Pass}
-use Rattle.engine.specs.declared.order.Pass.the-variants.{Read, Write}
-use Rattle.engine.specs.declared.order.Plan.{Plan}
-use Rattle.engine.specs.declared.order.Transfer.{Transfer}
-use Rattle.engine.specs.declared.work.Form.{Form}
-use Rattle.engine.specs.declared.work.Form.the-variants.{Addressing, Filling, Clearing}
-use Rattle.engine.specs.declared.work.Form.the-variants as form
-use Rattle.engine.specs.declared.work.Search.{Search}
-use Rattle.engine.specs.declared.work.Sector.{Sector}
-use Rattle.engine.specs.declared.work.Site.{Site}
-use Rattle.engine.specs.declared.work.Stage.{Stage}
-use Rattle.engine.specs.declared.work.Stage.the-variants.{Searching, Turning, Reading, Draining, Awaiting, Storing}
-use Rattle.engine.specs.declared.work.Step.{Step}
-use Rattle.engine.specs.declared.work.Task.{Task}
-use Rattle.engine.specs.declared.work.Then.the-variants.{Ends, Works}
-use Rattle.engine.specs.declared.work.Verdict.{Verdict}
-use Rattle.engine.specs.declared.work.Work.{Work}
-use Rattle.engine.specs.declared.work.Work.the-variants.{Identifying, Moving, Formatting}
+use Rattle.sectors.specs.declared.order.Job.{Job}
+use Rattle.sectors.specs.declared.order.Job.the-variants.{Identify, Move, Format}
+use Rattle.sectors.specs.declared.order.Order.{Order}
+use Rattle.sectors.specs.declared.order.Pass.{Pass}
+use Rattle.sectors.specs.declared.order.Pass.the-variants.{Read, Write}
+use Rattle.sectors.specs.declared.order.Plan.{Plan}
+use Rattle.sectors.specs.declared.order.Transfer.{Transfer}
+use Rattle.sectors.specs.declared.work.Form.{Form}
+use Rattle.sectors.specs.declared.work.Form.the-variants.{Addressing, Filling, Clearing}
+use Rattle.sectors.specs.declared.work.Form.the-variants as form
+use Rattle.sectors.specs.declared.work.Search.{Search}
+use Rattle.sectors.specs.declared.work.Sector.{Sector}
+use Rattle.sectors.specs.declared.work.Site.{Site}
+use Rattle.sectors.specs.declared.work.Stage.{Stage}
+use Rattle.sectors.specs.declared.work.Stage.the-variants.{Searching, Turning, Reading, Draining, Awaiting, Storing}
+use Rattle.sectors.specs.declared.work.Step.{Step}
+use Rattle.sectors.specs.declared.work.Task.{Task}
+use Rattle.sectors.specs.declared.work.Then.the-variants.{Ends, Works}
+use Rattle.sectors.specs.declared.work.Verdict.{Verdict}
+use Rattle.sectors.specs.declared.work.Work.{Work}
+use Rattle.sectors.specs.declared.work.Work.the-variants.{Identifying, Moving, Formatting}
 use Rattle.engine.specs.First.{writes, taskOf, movingOf, startOf, enteredOf, beginOf}
-use Rattle.engine.specs.Follow.{freshAt, followedOf, followOf, turnOf}
+use Rattle.sectors.specs.Follow.{freshAt, followedOf, followOf, turnOf}
 use Rattle.engine.specs.Format.{formatEnd, formsOf, formWait, formAwait, addressPut, addressOf, clearOn, formedOf, fillOf, clearOf, formOf}
 use Rattle.engine.specs.Kept.{suits, suited, jobFlow, fromHost, thenWait, thenSuited, thenFlow, thenDrive, thenFifo, storePlace, Kept}
-use Rattle.engine.specs.Read.{overrun, lastByte, readOn, readOf, drainedOf, drainOf}
+use Rattle.sectors.specs.Read.{overrun, lastByte, readOn, readOf, drainedOf, drainOf}
 use Rattle.engine.specs.ReadId.{noIdOf, noIdHere, idHere, identifiedOf, identifyOf}
-use Rattle.engine.specs.Result.{endOf, moveEnd, moveFails, movesOf}
-use Rattle.engine.specs.Search.{matches, secondPass, notFound, missedOf, withOther, readFound, dataFound, bareFound, lookedOf, searchOf}
+use Rattle.sectors.specs.Result.{endOf, moveEnd, moveFails, movesOf}
+use Rattle.sectors.specs.Search.{matches, secondPass, notFound, missedOf, withOther, readFound, dataFound, bareFound, lookedOf, searchOf}
 use Rattle.engine.specs.Step.{lostOf, stageOf, workOf, goOnOf, siteOf, passFlow, flowOf, waitOf, driveOf, stageWait}
-use Rattle.engine.specs.Track.{hasTrack, staysOf, passBytes, sectorBytes, dataPlace, markPlace}
-use Rattle.engine.specs.Write.{underrun, awaitOf, putOf, dryOf, writtenOf, storeOf}
+use Rattle.sectors.specs.Track.{hasTrack, staysOf, passBytes, sectorBytes, dataPlace, markPlace}
+use Rattle.sectors.specs.Write.{underrun, awaitOf, putOf, dryOf, writtenOf, storeOf}
 
 -- a pass from the host may store
 may-store : (p : Pass) (e : Effect) → writes p ≡ true → fromHost (passFlow p) ≡ false → e ≡ Nothing

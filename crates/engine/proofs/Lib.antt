@@ -1,4 +1,3 @@
-pub mod CondLaws
 pub mod EasyLaws
 pub mod Examples
 pub mod KeptLaws

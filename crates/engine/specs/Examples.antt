@@ -13,14 +13,14 @@ use Rattle.image.specs.declared.lent.Effect.the-variants.{Nothing}
 use Rattle.image.specs.declared.slot.Id.{Id}
 use Rattle.image.specs.Examples.{disk, sample}
 use Rattle.image.specs.Lent.{storedIn}
-use Rattle.engine.specs.declared.order.Job.{Job}
-use Rattle.engine.specs.declared.order.Job.the-variants.{Identify, Move, Format}
-use Rattle.engine.specs.declared.order.Order.{Order}
-use Rattle.engine.specs.declared.order.Pass.{Pass}
-use Rattle.engine.specs.declared.order.Pass.the-variants.{Read, Write}
-use Rattle.engine.specs.declared.work.Step.{Step}
-use Rattle.engine.specs.declared.work.Then.{Then}
-use Rattle.engine.specs.declared.work.Then.the-variants.{Ends, Works}
+use Rattle.sectors.specs.declared.order.Job.{Job}
+use Rattle.sectors.specs.declared.order.Job.the-variants.{Identify, Move, Format}
+use Rattle.sectors.specs.declared.order.Order.{Order}
+use Rattle.sectors.specs.declared.order.Pass.{Pass}
+use Rattle.sectors.specs.declared.order.Pass.the-variants.{Read, Write}
+use Rattle.sectors.specs.declared.work.Step.{Step}
+use Rattle.sectors.specs.declared.work.Then.{Then}
+use Rattle.sectors.specs.declared.work.Then.the-variants.{Ends, Works}
 use Rattle.engine.specs.First.{beginOf}
 use Rattle.engine.specs.Step.{goOnOf}
 use Rattle.engine.specs.Kept.{thenWait}

@@ -12,23 +12,23 @@ use Rattle.image.specs.declared.lent.Effect.the-variants.{Nothing}
 use Rattle.image.specs.declared.slot.Id.{Id}
 use Rattle.engine.specs.declared.first.Gate.{Gate}
 use Rattle.engine.specs.declared.first.Gate.the-variants.{Shut, Open}
-use Rattle.engine.specs.declared.order.Job.{Job}
-use Rattle.engine.specs.declared.order.Job.the-variants.{Identify, Move, Format}
-use Rattle.engine.specs.declared.order.Order.{Order}
-use Rattle.engine.specs.declared.order.Pass.{Pass}
-use Rattle.engine.specs.declared.order.Pass.the-variants.{Read, Write}
-use Rattle.engine.specs.declared.order.Transfer.{Transfer}
-use Rattle.engine.specs.declared.work.Form.the-variants.{Awaiting}
-use Rattle.engine.specs.declared.work.Site.{Site}
-use Rattle.engine.specs.declared.work.Stage.the-variants.{Searching}
-use Rattle.engine.specs.declared.work.Step.{Step}
-use Rattle.engine.specs.declared.work.Task.{Task}
-use Rattle.engine.specs.declared.work.Work.the-variants.{Identifying}
-use Rattle.engine.specs.Follow.{freshAt}
+use Rattle.sectors.specs.declared.order.Job.{Job}
+use Rattle.sectors.specs.declared.order.Job.the-variants.{Identify, Move, Format}
+use Rattle.sectors.specs.declared.order.Order.{Order}
+use Rattle.sectors.specs.declared.order.Pass.{Pass}
+use Rattle.sectors.specs.declared.order.Pass.the-variants.{Read, Write}
+use Rattle.sectors.specs.declared.order.Transfer.{Transfer}
+use Rattle.sectors.specs.declared.work.Form.the-variants.{Awaiting}
+use Rattle.sectors.specs.declared.work.Site.{Site}
+use Rattle.sectors.specs.declared.work.Stage.the-variants.{Searching}
+use Rattle.sectors.specs.declared.work.Step.{Step}
+use Rattle.sectors.specs.declared.work.Task.{Task}
+use Rattle.sectors.specs.declared.work.Work.the-variants.{Identifying}
+use Rattle.sectors.specs.Follow.{freshAt}
 use Rattle.engine.specs.Format.{formatId, formsOf}
 use Rattle.engine.specs.ReadId.{noAddress}
-use Rattle.engine.specs.Result.{endOf, goesOf, movesOf}
-use Rattle.engine.specs.Track.{hasTrack}
+use Rattle.sectors.specs.Result.{endOf, goesOf, movesOf}
+use Rattle.sectors.specs.Track.{hasTrack}
 
 abbrev pub writes : Pass → Bool
 writes Read = false

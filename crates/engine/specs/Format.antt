@@ -11,14 +11,14 @@ use Rattle.image.specs.declared.lent.Effect.the-variants.{Nothing, Store}
 use Rattle.image.specs.declared.mark.Mark.the-variants.{NoId, Data}
 use Rattle.image.specs.declared.slot.Id.{Id}
 use Rattle.image.specs.Mark.{byteOf}
-use Rattle.engine.specs.declared.order.Plan.{Plan}
-use Rattle.engine.specs.declared.work.Form.{Form}
-use Rattle.engine.specs.declared.work.Form.the-variants.{Awaiting, Addressing, Filling, Clearing}
-use Rattle.engine.specs.declared.work.Site.{Site}
-use Rattle.engine.specs.declared.work.Step.{Step}
-use Rattle.engine.specs.declared.work.Work.the-variants.{Formatting}
-use Rattle.engine.specs.Result.{endOf, goesOf}
-use Rattle.engine.specs.Track.{dataPlace, markPlace, sectorBytes}
+use Rattle.sectors.specs.declared.order.Plan.{Plan}
+use Rattle.sectors.specs.declared.work.Form.{Form}
+use Rattle.sectors.specs.declared.work.Form.the-variants.{Awaiting, Addressing, Filling, Clearing}
+use Rattle.sectors.specs.declared.work.Site.{Site}
+use Rattle.sectors.specs.declared.work.Step.{Step}
+use Rattle.sectors.specs.declared.work.Work.the-variants.{Formatting}
+use Rattle.sectors.specs.Result.{endOf, goesOf}
+use Rattle.sectors.specs.Track.{dataPlace, markPlace, sectorBytes}
 
 -- 01 Format: C H R N: head (0 for drives 2, 3), side, slots done, N, at every end (R14)
 abbrev pub formatId : Plan → ℕ → ℕ → ℕ → Id

@@ -10,16 +10,16 @@ use Rattle.image.specs.declared.lent.Effect.{Effect}
 use Rattle.image.specs.declared.lent.Effect.the-variants.{Nothing, Store}
 use Rattle.engine.specs.declared.flow.Flow.{Flow}
 use Rattle.engine.specs.declared.flow.Flow.the-variants.{Quiet, ToHost, FromHost}
-use Rattle.engine.specs.declared.order.Job.{Job}
-use Rattle.engine.specs.declared.order.Job.the-variants.{Identify, Move, Format}
-use Rattle.engine.specs.declared.order.Pass.{Pass}
-use Rattle.engine.specs.declared.work.Stage.{Stage}
-use Rattle.engine.specs.declared.work.Stage.the-variants.{Searching, Turning, Reading, Draining, Awaiting, Storing}
-use Rattle.engine.specs.declared.work.Step.{Step}
-use Rattle.engine.specs.declared.work.Then.{Then}
-use Rattle.engine.specs.declared.work.Then.the-variants.{Ends, Works}
-use Rattle.engine.specs.declared.work.Work.{Work}
-use Rattle.engine.specs.declared.work.Work.the-variants.{Identifying, Moving, Formatting}
+use Rattle.sectors.specs.declared.order.Job.{Job}
+use Rattle.sectors.specs.declared.order.Job.the-variants.{Identify, Move, Format}
+use Rattle.sectors.specs.declared.order.Pass.{Pass}
+use Rattle.sectors.specs.declared.work.Stage.{Stage}
+use Rattle.sectors.specs.declared.work.Stage.the-variants.{Searching, Turning, Reading, Draining, Awaiting, Storing}
+use Rattle.sectors.specs.declared.work.Step.{Step}
+use Rattle.sectors.specs.declared.work.Then.{Then}
+use Rattle.sectors.specs.declared.work.Then.the-variants.{Ends, Works}
+use Rattle.sectors.specs.declared.work.Work.{Work}
+use Rattle.sectors.specs.declared.work.Work.the-variants.{Identifying, Moving, Formatting}
 use Rattle.engine.specs.First.{writes}
 use Rattle.engine.specs.Step.{passFlow, flowOf, waitOf, driveOf}
 

@@ -1,12 +1,6 @@
 pub mod Examples
 pub mod First
-pub mod Follow
 pub mod Format
 pub mod Kept
-pub mod Read
 pub mod ReadId
-pub mod Result
-pub mod Search
 pub mod Step
-pub mod Track
-pub mod Write

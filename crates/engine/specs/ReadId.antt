@@ -9,12 +9,12 @@ use Rattle.image.specs.declared.mark.Mark.{Mark}
 use Rattle.image.specs.declared.mark.Mark.the-variants.{NoId, Data, NoData}
 use Rattle.image.specs.declared.slot.Id.{Id}
 use Rattle.image.specs.Mark.{markOf}
-use Rattle.engine.specs.declared.work.Site.{Site}
-use Rattle.engine.specs.declared.work.Step.{Step}
-use Rattle.engine.specs.declared.work.Work.the-variants.{Identifying}
-use Rattle.engine.specs.Result.{endOf, goesOf}
-use Rattle.engine.specs.Search.{slotOf, passesAfter, secondPass}
-use Rattle.engine.specs.Track.{nextSlot}
+use Rattle.sectors.specs.declared.work.Site.{Site}
+use Rattle.sectors.specs.declared.work.Step.{Step}
+use Rattle.sectors.specs.declared.work.Work.the-variants.{Identifying}
+use Rattle.sectors.specs.Result.{endOf, goesOf}
+use Rattle.sectors.specs.Search.{slotOf, passesAfter, secondPass}
+use Rattle.sectors.specs.Track.{nextSlot}
 
 -- 01 Read ID: C H R N 0 at any failing end
 abbrev pub noAddress : Id

@@ -8,23 +8,23 @@ use Rattle.image.specs.declared.disk.Disk.{Disk}
 use Rattle.image.specs.declared.lent.Effect.the-variants.{Nothing}
 use Rattle.engine.specs.declared.flow.Flow.{Flow}
 use Rattle.engine.specs.declared.flow.Flow.the-variants.{Quiet, ToHost, FromHost}
-use Rattle.engine.specs.declared.order.Pass.{Pass}
-use Rattle.engine.specs.declared.order.Pass.the-variants.{Read, Write}
-use Rattle.engine.specs.declared.work.Site.{Site}
-use Rattle.engine.specs.declared.work.Stage.{Stage}
-use Rattle.engine.specs.declared.work.Stage.the-variants.{Searching, Turning, Reading, Draining, Awaiting, Storing}
-use Rattle.engine.specs.declared.work.Step.{Step}
-use Rattle.engine.specs.declared.work.Task.{Task}
-use Rattle.engine.specs.declared.work.Work.{Work}
-use Rattle.engine.specs.declared.work.Work.the-variants.{Identifying, Moving, Formatting}
-use Rattle.engine.specs.Follow.{turnOf}
+use Rattle.sectors.specs.declared.order.Pass.{Pass}
+use Rattle.sectors.specs.declared.order.Pass.the-variants.{Read, Write}
+use Rattle.sectors.specs.declared.work.Site.{Site}
+use Rattle.sectors.specs.declared.work.Stage.{Stage}
+use Rattle.sectors.specs.declared.work.Stage.the-variants.{Searching, Turning, Reading, Draining, Awaiting, Storing}
+use Rattle.sectors.specs.declared.work.Step.{Step}
+use Rattle.sectors.specs.declared.work.Task.{Task}
+use Rattle.sectors.specs.declared.work.Work.{Work}
+use Rattle.sectors.specs.declared.work.Work.the-variants.{Identifying, Moving, Formatting}
+use Rattle.sectors.specs.Follow.{turnOf}
 use Rattle.engine.specs.Format.{doneOf, formatEnd, formOf, formWait}
-use Rattle.engine.specs.Read.{readOf, drainOf}
+use Rattle.sectors.specs.Read.{readOf, drainOf}
 use Rattle.engine.specs.ReadId.{identifyOf, noIdOf}
-use Rattle.engine.specs.Result.{moveFails}
-use Rattle.engine.specs.Search.{searchOf}
-use Rattle.engine.specs.Track.{staysOf}
-use Rattle.engine.specs.Write.{awaitOf, storeOf}
+use Rattle.sectors.specs.Result.{moveFails}
+use Rattle.sectors.specs.Search.{searchOf}
+use Rattle.sectors.specs.Track.{staysOf}
+use Rattle.sectors.specs.Write.{awaitOf, storeOf}
 
 abbrev pub siteOf : Work → Site
 siteOf (Identifying site slot passes) = site

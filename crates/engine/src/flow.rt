@@ -1,9 +1,9 @@
 // What the controller asks of a command at work.
-use crate::order::Pass;
 use crate::step::site_of;
-use crate::work::Form;
-use crate::work::Stage;
-use crate::work::Work;
+use sectors::order::Pass;
+use sectors::work::Form;
+use sectors::work::Stage;
+use sectors::work::Work;
 ghost use mathlib.Core.Path.{_≡_};
 ghost use Rattle.engine.specs.Format.{formWait};
 ghost use Rattle.engine.specs.Step.{passFlow, flowOf, stageWait, waitOf, driveOf, hearsTc};

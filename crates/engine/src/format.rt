@@ -1,19 +1,19 @@
 // 01 Format: mark 0, the host's four bytes, B times D, mark 1; then mark 0 for each slot left.
-use crate::order::Plan;
-use crate::result::end;
-use crate::result::goes;
-use crate::track::data_place;
-use crate::track::mark_place;
-use crate::track::sector_bytes;
-use crate::work::Form;
-use crate::work::Site;
-use crate::work::Step;
-use crate::work::Work;
 use chip::fifo::Fifo;
 use image::lent::Effect;
 use image::mark::Mark;
 use image::mark::mark_byte;
 use image::slot::Id;
+use sectors::order::Plan;
+use sectors::result::end;
+use sectors::result::goes;
+use sectors::track::data_place;
+use sectors::track::mark_place;
+use sectors::track::sector_bytes;
+use sectors::work::Form;
+use sectors::work::Site;
+use sectors::work::Step;
+use sectors::work::Work;
 ghost use mathlib.Core.Path.{_≡_};
 ghost use Rattle.engine.specs.Format.{
   formatId,

@@ -1,18 +1,18 @@
 // 01 Read ID: the first ID from slot 0.
-use crate::result::end;
-use crate::result::goes;
-use crate::search::passes_after;
-use crate::search::second_pass;
-use crate::track::next_slot;
-use crate::track::slot_of;
-use crate::work::Site;
-use crate::work::Step;
-use crate::work::Work;
 use chip::fifo::Fifo;
 use image::lent::Effect;
 use image::mark::Mark;
 use image::mark::mark_of;
 use image::slot::Id;
+use sectors::result::end;
+use sectors::result::goes;
+use sectors::search::passes_after;
+use sectors::search::second_pass;
+use sectors::track::next_slot;
+use sectors::track::slot_of;
+use sectors::work::Site;
+use sectors::work::Step;
+use sectors::work::Work;
 ghost use mathlib.Core.Path.{_≡_};
 ghost use Rattle.engine.specs.ReadId.{noAddress, noIdOf, noIdHere, idHere, identifiedOf, identifyOf};
 

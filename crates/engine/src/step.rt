@@ -1,25 +1,25 @@
 // 01 Data commands: a later tick of a command at work.
-use crate::follow::turn;
 use crate::format::form_on;
 use crate::format::format_end;
 use crate::format::slots_done;
-use crate::read::drain;
-use crate::read::read;
 use crate::read_id::identify;
 use crate::read_id::no_id;
-use crate::result::move_fails;
-use crate::search::search;
-use crate::track::stays;
-use crate::work::Site;
-use crate::work::Stage;
-use crate::work::Step;
-use crate::work::Task;
-use crate::work::Work;
-use crate::write::await_byte;
-use crate::write::store;
 use chip::fifo::Fifo;
 use image::disk::Disk;
 use image::lent::Effect;
+use sectors::follow::turn;
+use sectors::read::drain;
+use sectors::read::read;
+use sectors::result::gone;
+use sectors::search::search;
+use sectors::track::stays;
+use sectors::work::Site;
+use sectors::work::Stage;
+use sectors::work::Step;
+use sectors::work::Task;
+use sectors::work::Work;
+use sectors::write::await_byte;
+use sectors::write::store;
 ghost use mathlib.Core.Path.{_≡_};
 ghost use Rattle.engine.specs.Step.{siteOf, lostOf, stageOf, workOf, goOnOf};
 
@@ -39,7 +39,7 @@ fn lost(work: Work, head: u8) -> Step
 {
     match work {
         Work::Identifying(site, slot, passes) => no_id(site),
-        Work::Moving(site, task, stage) => move_fails(0x01, 0x00, site, task),
+        Work::Moving(site, task, stage) => gone(site, task),
         Work::Formatting(site, plan, form) => {
             let done = slots_done(form, plan);
             format_end(false, 0x01, done, Effect::Nothing, site, plan, head)

@@ -10,15 +10,15 @@ use Rattle.chip.specs.Fifo.{filledOf, takenOf, openedOf, givenOf, drawnOf}
 use Rattle.chip.specs.Next.{advancedOf, nextOf}
 use Rattle.drive.specs.Step.{stepped, sought, recalibrated, seekStep, seekTick, recalibrateStep, recalibrateTick, tickIn, tickOf}
 use Rattle.engine.specs.First.{gateOf, givenId, movingOf, startOf, enteredOf, beginOf}
-use Rattle.engine.specs.Follow.{followedOf, followOf, turnOf}
+use Rattle.sectors.specs.Follow.{followedOf, followOf, turnOf}
 use Rattle.engine.specs.Format.{formatEnd, formAwait, addressPut, addressOf, clearOn, formedOf, fillOf, clearOf, formOf}
-use Rattle.engine.specs.Read.{overrun, readOn, readOf, drainedOf, drainOf}
+use Rattle.sectors.specs.Read.{overrun, readOn, readOf, drainedOf, drainOf}
 use Rattle.engine.specs.ReadId.{noIdOf, noIdHere, idHere, identifiedOf, identifyOf}
-use Rattle.engine.specs.Result.{endOf, moveEnd, moveFails}
-use Rattle.engine.specs.Search.{notFound, missedOf, readFound, dataFound, bareFound, lookedOf, searchOf}
+use Rattle.sectors.specs.Result.{endOf, moveEnd, moveFails}
+use Rattle.sectors.specs.Search.{notFound, missedOf, readFound, dataFound, bareFound, lookedOf, searchOf}
 use Rattle.engine.specs.Step.{lostOf, stageOf, workOf, goOnOf}
-use Rattle.engine.specs.Track.{hasTrack, staysOf, markPlace, dataPlace}
-use Rattle.engine.specs.Write.{underrun, awaitOf, putOf, dryOf, writtenOf, storeOf}
+use Rattle.sectors.specs.Track.{hasTrack, staysOf, markPlace, dataPlace}
+use Rattle.sectors.specs.Write.{underrun, awaitOf, putOf, dryOf, writtenOf, storeOf}
 use Rattle.fdc.specs.Answer.{answerOf}
 use Rattle.fdc.specs.Calls.{portOf, readReg, writeReg, powerOn, readPort, writePort, dmaRead, dmaWrite, noteChange}
 use Rattle.fdc.specs.Commands.{answeredOf, saidOf, saidTwo, idledOf, specifyOf, configureOf, sensingOf, reporterOf, sensedOf, soughtOf, recalibratedOf, moveOrder, formatOrder, identifyOrder, startedOf, ranOf, runOf, gatheredOf, goesOn, begunOf}

@@ -29,11 +29,11 @@ use Rattle.drive.specs.Drive.{sensedOf as sensedDrive}
 use Rattle.drive.specs.Due.{Within}
 use Rattle.drive.specs.Step.{tickOf as tickDrive}
 use Rattle.drive.proofs.DriveLaws.{within-fresh, within-reset, within-reported, within-sensed, within-noted, within-seek, within-recalibrate, within-tick}
-use Rattle.engine.specs.declared.order.Order.{Order}
-use Rattle.engine.specs.declared.work.Then.{Then}
-use Rattle.engine.specs.declared.work.Then.the-variants.{Ends, Works}
-use Rattle.engine.specs.declared.work.Step.{Step}
-use Rattle.engine.specs.declared.work.Work.{Work}
+use Rattle.sectors.specs.declared.order.Order.{Order}
+use Rattle.sectors.specs.declared.work.Then.{Then}
+use Rattle.sectors.specs.declared.work.Then.the-variants.{Ends, Works}
+use Rattle.sectors.specs.declared.work.Step.{Step}
+use Rattle.sectors.specs.declared.work.Work.{Work}
 use Rattle.engine.specs.Kept.{Kept, thenWait, thenFifo}
 use Rattle.engine.specs.Step.{waitOf, driveOf, goOnOf}
 use Rattle.engine.specs.First.{beginOf}

@@ -23,8 +23,8 @@ use Rattle.drive.specs.Drive.{notedOf}
 use Rattle.drive.specs.Due.{Goes, Seeks, Recalibrates, Over, recalibrateReport}
 use Rattle.drive.specs.Step.{tickOf as tickDrive}
 use Rattle.drive.proofs.StepLaws.{seek-goes-on, seek-ends, recalibrate-goes-on, recalibrate-ends}
-use Rattle.engine.specs.declared.work.Then.{Then}
-use Rattle.engine.specs.declared.work.Then.the-variants.{Ends, Works}
+use Rattle.sectors.specs.declared.work.Then.{Then}
+use Rattle.sectors.specs.declared.work.Then.the-variants.{Ends, Works}
 use Rattle.fdc.specs.declared.record.Controller.{Controller}
 use Rattle.fdc.specs.declared.record.Phase.{Phase}
 use Rattle.fdc.specs.declared.record.Phase.the-variants.{Idle, Gathering, Starting, Working, Sensing, Answering}

@@ -28,11 +28,11 @@ use Rattle.chip.specs.Stepping.{stepTicks}
 use Rattle.drive.specs.declared.Drive.{Drive}
 use Rattle.drive.specs.Drive.{seekOf, recalibrateOf}
 use Rattle.drive.specs.Drive.{sensedOf as sensedDrive}
-use Rattle.engine.specs.declared.order.Order.{Order}
-use Rattle.engine.specs.declared.order.Pass.{Pass}
-use Rattle.engine.specs.declared.order.Pass.the-variants.{Read, Write}
-use Rattle.engine.specs.declared.order.Job.the-variants.{Identify, Move}
-use Rattle.engine.specs.declared.order.Job.the-variants as job
+use Rattle.sectors.specs.declared.order.Order.{Order}
+use Rattle.sectors.specs.declared.order.Pass.{Pass}
+use Rattle.sectors.specs.declared.order.Pass.the-variants.{Read, Write}
+use Rattle.sectors.specs.declared.order.Job.the-variants.{Identify, Move}
+use Rattle.sectors.specs.declared.order.Job.the-variants as job
 use Rattle.fdc.specs.declared.record.Registers.{Registers}
 use Rattle.fdc.specs.declared.record.Phase.the-variants.{Idle, Gathering, Starting, Sensing, Answering}
 use Rattle.fdc.specs.declared.record.Controller.{Controller}

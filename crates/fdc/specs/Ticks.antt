@@ -9,11 +9,11 @@ use Rattle.chip.specs.declared.fifo.Fifo.{Fifo}
 use Rattle.chip.specs.declared.refusal.Refusal.the-variants.{Damaged}
 use Rattle.drive.specs.declared.Drive.{Drive}
 use Rattle.drive.specs.Step.{tickOf as tickDrive}
-use Rattle.engine.specs.declared.order.Order.{Order}
-use Rattle.engine.specs.declared.work.Step.{Step}
-use Rattle.engine.specs.declared.work.Then.{Then}
-use Rattle.engine.specs.declared.work.Then.the-variants.{Ends, Works}
-use Rattle.engine.specs.declared.work.Work.{Work}
+use Rattle.sectors.specs.declared.order.Order.{Order}
+use Rattle.sectors.specs.declared.work.Step.{Step}
+use Rattle.sectors.specs.declared.work.Then.{Then}
+use Rattle.sectors.specs.declared.work.Then.the-variants.{Ends, Works}
+use Rattle.sectors.specs.declared.work.Work.{Work}
 use Rattle.engine.specs.First.{beginOf}
 use Rattle.engine.specs.Step.{driveOf, goOnOf}
 use Rattle.image.specs.declared.disk.Disk.{Disk}

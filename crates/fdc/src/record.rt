@@ -4,8 +4,8 @@ use chip::codes::Entry;
 use chip::fifo::Fifo;
 use drive::Drive;
 use engine::flow::wait_of;
-use engine::order::Order;
-use engine::work::Work;
+use sectors::order::Order;
+use sectors::work::Work;
 ghost use mathlib.Core.Path.{_≡_};
 ghost use Prim.Native.Nat.{_%_};
 ghost use Rattle.fdc.specs.Record.{

@@ -13,6 +13,6 @@ lost-spec =
     (λ c. search needs) (λ c κs. search needs) (λ c. search needs) (λ c κs. search needs) (λ c. search needs)
     (λ c κs. search needs) (λ c κs. search needs)
     (λ c. rw (c .before .before .work .given .1) (c .no-id .ensures))
-    (λ c. rw (c .before .before .work2 .given .1) (c .move-fails .ensures))
+    (λ c. rw (c .before .before .work2 .given .1) (c .gone .ensures))
     (λ c. rw (c .before .before .before .work3 .given .1)
     (c .format-end .ensures ∙ rw (c .before .slots-done .ensures))))

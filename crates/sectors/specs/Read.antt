@@ -1,0 +1,57 @@
+-- 01 Read: a sector's bytes to the FIFO, one a tick, then the looks at the FIFO until it is empty.
+-- Assumes nothing.
+use Prim.Native.Nat.{ℕ, _+_}
+use mathlib.Core.Bool.{Bool, true, cond}
+use mathlib.Core.List.{List}
+use lib.Dec.{eqb, leb}
+use lib.ListN.{getD}
+use Rattle.chip.specs.declared.fifo.Fifo.{Fifo}
+use Rattle.chip.specs.Fifo.{fullOf, filledOf}
+use Rattle.image.specs.declared.lent.Effect.the-variants.{Nothing}
+use Rattle.sectors.specs.declared.work.Sector.{Sector}
+use Rattle.sectors.specs.declared.work.Site.{Site}
+use Rattle.sectors.specs.declared.work.Stage.the-variants.{Reading, Draining}
+use Rattle.sectors.specs.declared.work.Step.{Step}
+use Rattle.sectors.specs.declared.work.Task.{Task}
+use Rattle.sectors.specs.Follow.{followOf}
+use Rattle.sectors.specs.Result.{moveEnd, moveFails, movesOf}
+use Rattle.sectors.specs.Track.{dataPlace, passBytes}
+
+-- 01 Read: a byte to move and the FIFO full: ST1 10
+unfoldable pub overrun : Site → Task → Step
+overrun site task = moveFails 0x10 0x00 site task
+
+-- that byte is the sector's last
+abbrev pub lastByte : Site → ℕ → Bool
+lastByte site done = leb (passBytes site) (done + 1)
+
+-- one byte further
+unfoldable pub readOn : Sector → ℕ → Site → Task → Fifo → Step
+readOn sector done site task fifo =
+    cond (lastByte site done) (movesOf (Draining sector 0) site task fifo Nothing)
+    (movesOf (Reading sector (done + 1)) site task fifo Nothing)
+
+-- 01 Read: a byte a tick; after TC no byte follows and the sector is run to its end. The byte is that of the image
+-- lent to this tick (R16)
+unfoldable pub readOf : Sector → ℕ → Site → Task → ℕ → List ℕ → Fifo → Bool → ℕ → Step
+readOf sector done site task head img fifo efifo fifothr =
+    cond (fifo .tc) (readOn sector done site task fifo)
+    (cond (fullOf efifo fifo) (overrun site task)
+    (readOn sector done site task
+    (filledOf efifo fifothr (lastByte site done) (getD img (dataPlace site head (sector .slot) done) 0) fifo)))
+
+-- 01 Read: a look that finds none, in this order: broken, ST1 20, ST2 20; other kind, IC 00, address as it was,
+-- before TC (R9); else Next
+unfoldable pub drainedOf : Sector → Site → Task → Fifo → Step
+drainedOf sector site task fifo =
+    cond (sector .broken) (moveFails 0x20 0x20 site task)
+    (cond (sector .other) (moveEnd true 0x00 0x00 (task .id) Nothing site task)
+    (followOf (sector .slot) (fifo .tc) site task fifo Nothing))
+
+-- 01 Read: after the last byte each tick looks at the FIFO: the 64th that finds bytes ends it, ST1 10. A byte taken
+-- does not count them anew (R10)
+unfoldable pub drainOf : Sector → ℕ → Site → Task → Fifo → Step
+drainOf sector looks site task fifo =
+    cond (eqb (fifo .count) 0) (drainedOf sector site task fifo)
+    (cond (leb 63 looks) (moveFails 0x10 0x00 site task)
+    (movesOf (Draining sector (looks + 1)) site task fifo Nothing))

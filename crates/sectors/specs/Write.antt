@@ -1,0 +1,56 @@
+-- 01 Write: the wait for a byte, and then one store a tick: broken mark, B bytes, good mark.
+-- Assumes nothing.
+use Prim.Native.Nat.{ℕ, _+_}
+use mathlib.Core.Bool.{Bool, true, false, _&&_, cond}
+use lib.Dec.{eqb, leb}
+use Rattle.chip.specs.declared.fifo.Fifo.{Fifo}
+use Rattle.chip.specs.Fifo.{drawnOf, frontOf}
+use Rattle.image.specs.declared.lent.Effect.the-variants.{Nothing, Store}
+use Rattle.image.specs.declared.mark.Mark.the-variants.{Data}
+use Rattle.image.specs.Mark.{byteOf}
+use Rattle.sectors.specs.declared.work.Site.{Site}
+use Rattle.sectors.specs.declared.work.Stage.the-variants.{Awaiting, Storing}
+use Rattle.sectors.specs.declared.work.Step.{Step}
+use Rattle.sectors.specs.declared.work.Task.{Task}
+use Rattle.sectors.specs.Follow.{followOf}
+use Rattle.sectors.specs.Result.{moveFails, movesOf}
+use Rattle.sectors.specs.Track.{dataPlace, markPlace, passBytes}
+
+-- 01 Write: a byte to store, the FIFO empty without TC: ST1 10, the sector stays broken
+unfoldable pub underrun : Site → Task → Step
+underrun site task = moveFails 0x10 0x00 site task
+
+-- the marks stored are of the command's kind, whatever stood there (R13)
+abbrev pub writtenMark : Bool → Task → ℕ
+writtenMark broken task = byteOf (Data (task .transfer .deleted) broken)
+
+-- 01 Write: wait for a byte; the 64th tick without one ends with ST1 10. Broken mark in the tick that finds the byte,
+-- which is left
+unfoldable pub awaitOf : ℕ → ℕ → Site → Task → ℕ → Fifo → Step
+awaitOf slot wait site task head fifo =
+    cond (eqb (fifo .count) 0)
+    (cond (leb 63 wait) (moveFails 0x10 0x00 site task) (movesOf (Awaiting slot (wait + 1)) site task fifo Nothing))
+    (movesOf (Storing slot 0) site task fifo (Store (markPlace site head slot) (writtenMark true task)))
+
+-- a byte stored
+unfoldable pub putOf : ℕ → ℕ → ℕ → Site → Task → ℕ → Fifo → Step
+putOf byte slot done site task head fifo =
+    movesOf (Storing slot (done + 1)) site task fifo (Store (dataPlace site head slot done) byte)
+
+-- 01 Write: after TC and with the FIFO empty, zeros
+unfoldable pub dryOf : ℕ → ℕ → Site → Task → ℕ → Fifo → Step
+dryOf slot done site task head fifo =
+    cond (fifo .tc) (putOf 0x00 slot done site task head fifo) (underrun site task)
+
+-- 01 Write: good mark, and Next in that same tick; TC counts there with the FIFO empty (R12)
+unfoldable pub writtenOf : ℕ → Site → Task → ℕ → Fifo → Step
+writtenOf slot site task head fifo =
+    followOf slot (fifo .tc && eqb (fifo .count) 0) site task fifo
+    (Store (markPlace site head slot) (writtenMark false task))
+
+-- 01 Write: B bytes, one a tick
+unfoldable pub storeOf : ℕ → ℕ → Site → Task → ℕ → Fifo → Bool → ℕ → Step
+storeOf slot done site task head fifo efifo fifothr =
+    cond (leb (passBytes site) done) (writtenOf slot site task head fifo)
+    (cond (eqb (fifo .count) 0) (dryOf slot done site task head fifo)
+    (putOf (frontOf fifo) slot done site task head (drawnOf efifo fifothr fifo)))
