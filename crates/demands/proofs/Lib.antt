@@ -1,2 +1,19 @@
-mod TickRules
-mod CallRules
+pub mod AddressLaws
+pub mod BoundLaws
+pub mod CallLaws
+pub mod CallRules
+pub mod CountLaws
+pub mod CutExamples
+pub mod CutLaws
+pub mod DataErrorExamples
+pub mod DataErrorLaws
+pub mod EndsExamples
+pub mod EndsLaws
+pub mod FifoStream
+pub mod FollowLaws
+pub mod LeftLaws
+pub mod OtherLaws
+pub mod PowerCutLaws
+pub mod QuietLaws
+pub mod StepsLaws
+pub mod TickRules

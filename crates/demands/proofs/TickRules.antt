@@ -1,14 +1,19 @@
--- A tick of a command at work, rule by rule: the view of `goOnOf` that the theorems over lists of calls go by. Each rule
--- carries what holds where it is taken, and what it gives, as equations.
+-- A tick of a command at work, rule by rule: the view of `goOnOf` that the theorems over lists of calls go by. Each
+-- rule carries what holds where it is taken, and what it gives, as equations.
 -- Assumes nothing.
-use Prim.Native.Nat.{ℕ, _+_, _%_, _≤_, _<_}
-use mathlib.Core.Bool.{Bool, true, false, _&&_, not}
+use Prim.Native.Nat.{ℕ, zero, suc, _+_, _≤_, _<_}
+use native.Mathlib.Omega.{arith}
+use mathlib.Core.Bool.{Bool, Bool·beq, true, false, _&&_, not, true≢false}
 use mathlib.Core.List.{List}
-use mathlib.Core.Path.{_≡_}
-use lib.Dec.{eqb}
+use mathlib.Core.Path.{_≡_, refl, ap, _∙_}
+use lib.Dec.{eqb, leb}
+use borrow.Author.Tests.{leb-true, leb-false, eqb-true, eqb-false, lt-ltb, le-ltb}
+use Rattle.image.proofs.TestLaws.{by-test, both}
 use Rattle.chip.specs.declared.fifo.Fifo.{Fifo}
-use Rattle.chip.specs.Fifo.{frontOf, drawnOf, emptied}
-use Rattle.chip.specs.Next.{turned, advancedOf}
+use Rattle.chip.specs.declared.next.Next.{Next}
+use Rattle.chip.specs.Fifo.{frontOf, drawnOf, emptied, fullOf}
+use Rattle.chip.specs.Next.{advancedOf, nextOf}
+use Rattle.sectors.specs.declared.order.Pass.{Pass}
 use Rattle.sectors.specs.declared.order.Pass.the-variants.{Read, Write}
 use Rattle.sectors.specs.declared.work.Search.{Search}
 use Rattle.sectors.specs.declared.work.Sector.{Sector}
@@ -19,11 +24,14 @@ use Rattle.sectors.specs.declared.work.Step.{Step}
 use Rattle.sectors.specs.declared.work.Task.{Task}
 use Rattle.sectors.specs.declared.work.Then.the-variants.{Ends}
 use Rattle.sectors.specs.declared.work.Verdict.{Verdict}
-use Rattle.sectors.specs.Follow.{freshAt, withId, onSide}
-use Rattle.sectors.specs.Result.{movesOf}
-use Rattle.sectors.specs.Search.{slotOf, matches, withOther}
-use Rattle.sectors.specs.Track.{nextSlot, markPlace, dataPlace, passBytes}
-use Rattle.sectors.specs.Write.{writtenMark}
+use Rattle.sectors.specs.Follow.{freshAt, withId, onSide, followedOf, followOf, turnOf}
+use Rattle.sectors.specs.Read.{overrun, lastByte, readOn, readOf, drainedOf, drainOf}
+use Rattle.sectors.specs.Result.{endOf, moveEnd, moveFails, movesOf}
+use Rattle.sectors.specs.Search.{slotOf, matches, withOther, secondPass, oneOn, missedOf, readFound, dataFound, bareFound, lookedOf, searchOf}
+use Rattle.sectors.specs.Search as finding
+use Rattle.engine.specs.Step.{stageOf}
+use Rattle.sectors.specs.Track.{hasTrack, nextSlot, markPlace, dataPlace, passBytes}
+use Rattle.sectors.specs.Write.{writtenMark, underrun, awaitOf, putOf, dryOf, writtenOf, storeOf}
 use Rattle.image.specs.declared.lent.Effect.{Effect}
 use Rattle.image.specs.declared.lent.Effect.the-variants.{Nothing, Store}
 use Rattle.image.specs.declared.mark.Mark.{Mark}
@@ -97,7 +105,8 @@ pub data Rule (head : ℕ) (img : List ℕ) (efifo : Bool) (fifothr : ℕ) (site
       → Rule head img efifo fifothr site task fifo stage o
   -- the write
   waits : (slot wait : ℕ) → stage ≡ Awaiting slot wait → wait < 63
-      → o ≡ movesOf (Awaiting slot (wait + 1)) site task fifo Nothing → Rule head img efifo fifothr site task fifo stage o
+      → o ≡ movesOf (Awaiting slot (wait + 1)) site task fifo Nothing
+      → Rule head img efifo fifothr site task fifo stage o
   begins : (slot wait : ℕ) → stage ≡ Awaiting slot wait → 0 < fifo .count
       → o ≡ movesOf (Storing slot 0) site task fifo (Store (markPlace site head slot) (writtenMark true task))
       → Rule head img efifo fifothr site task fifo stage o
@@ -127,3 +136,212 @@ pub data Rule (head : ℕ) (img : List ℕ) (efifo : Bool) (fifothr : ℕ) (site
       → sector .broken ≡ false → o ≡ endsWith verdict Nothing → Rule head img efifo fifothr site task fifo stage o
   drained : (sector : Sector) (looks : ℕ) → stage ≡ Draining sector looks → sector .broken ≡ false
       → NextRule (sector .slot) site task fifo Nothing o → Rule head img efifo fifothr site task fifo stage o
+
+-- 01 Next
+module _ (slot : ℕ) (site : Site) (task : Task) (fifo : Fifo) (effect : Effect) where
+  pub follow-rule : (tc : Bool) → NextRule slot site task fifo effect (followOf slot tc site task fifo effect)
+  unfolding followOf followedOf nextOf moveEnd endOf
+  follow-rule tc =
+      let id = task .id in
+      let eot = task .transfer .eot in
+      let mt = task .transfer .mt in
+      let P : Next → Type 0 = λ n. NextRule slot site task fifo effect (followedOf n slot site task fifo effect) in
+      by-test tc P _ _ (λ t. stops _ refl)
+      (λ t. by-test (eqb (id .r) eot) P _ _
+      (λ r. by-test (mt && eqb (site .side) 0) P _ _
+      (λ m. let b = both mt (eqb (site .side) 0) m in turns (eqb-true _ _ r) (b .0) (eqb-true _ _ (b .1)) refl)
+      (λ m. stops _ refl))
+      (λ r. steps (eqb-false _ _ r) refl))
+
+pos-ne : (n : ℕ) → (n ≡ 0 → ⊥) → 0 < n
+pos-ne zero h = absurd (h refl)
+pos-ne (suc n) h = omega arith
+
+beq-same : (a b : Bool) → a ≡ b → not (Bool·beq a b) ≡ false
+beq-same true b e = rw (← e) refl
+beq-same false b e = rw (← e) refl
+
+module _ (head : ℕ) (img : List ℕ) (efifo : Bool) (fifothr : ℕ) (site : Site) (task : Task) (fifo : Fifo) where
+  abbrev R : Stage → Step → Type 0
+  R stage o = Rule head img efifo fifothr site task fifo stage o
+
+  -- the slot's address is the one sought; and a hit, by the slot's mark
+  abbrev same-at : Search → Bool
+  same-at look = matches (slotOf img site head (look .slot) .id) (task .id) (site .disk .n)
+
+  abbrev hit-by : Search → Mark → Bool
+  hit-by look mark = marked mark && same-at look
+
+  pos-of : eqb (fifo .count) 0 ≡ false → 0 < fifo .count
+  pos-of t = pos-ne (fifo .count) (eqb-false (fifo .count) 0 t)
+
+  -- 01 Search
+  fails-rule : (look look′ : Search) → hits img site head task (look .slot) ≡ false
+      → site .disk .slots ≤ look .slot + 1 → 1 ≤ look .passes → R (Searching look) (finding.notFound look′ site task)
+  unfolding finding.notFound moveFails moveEnd endOf
+  fails-rule look look′ h l k =
+      by-test (look′ .met) (R (Searching look)) _ _
+      (λ t. notFound look _ refl h l k refl)
+      (λ t. notFound look _ refl h l k refl)
+
+  missed-rule : (look look′ : Search) → look′ .slot ≡ look .slot → look′ .passes ≡ look .passes
+      → hits img site head task (look .slot) ≡ false → R (Searching look) (missedOf look′ site task fifo)
+  unfolding missedOf
+  missed-rule look look′ s p h =
+      by-test (secondPass (look′ .slot) slots (look′ .passes)) (R (Searching look)) _ _
+      (λ t. let b = both (leb slots (look′ .slot + 1)) (leb 1 (look′ .passes)) t in
+      fails-rule look look′ h
+      (omega (arith, leb-true slots (look′ .slot + 1) (b .0)))
+      (omega (arith, leb-true 1 (look′ .passes) (b .1))))
+      (λ t. go (leb slots (look′ .slot + 1)) refl (leb 1 (look′ .passes)) refl t)
+    where
+      slots : ℕ
+      slots = site .disk .slots
+
+      go : (a : Bool) → leb slots (look′ .slot + 1) ≡ a → (b : Bool) → leb 1 (look′ .passes) ≡ b → (a && b) ≡ false
+          → R (Searching look) (movesOf (Searching (oneOn look′ slots)) site task fifo Nothing)
+      go true l b m t =
+          let k = leb-true slots (look′ .slot + 1) l in
+          let m′ : leb 1 (look′ .passes) ≡ false = m ∙ t in
+          passes look (oneOn look′ slots) refl h (omega arith)
+          (omega (arith, leb-false 1 (look′ .passes) m′))
+          (rw (le-ltb (look′ .slot + 1) slots k))
+          (rw l) refl
+      go false l b m t =
+          let k = leb-false slots (look′ .slot + 1) l in
+          misses look (oneOn look′ slots) refl h (omega arith)
+          (rw (lt-ltb (look′ .slot + 1) slots k, s))
+          (rw l p) refl
+
+  -- 01 Read: at the match
+  read-rule-at : (look : Search) (deleted broken other : Bool)
+      → other ≡ not (Bool·beq deleted (task .transfer .deleted))
+      → hits img site head task (look .slot) ≡ true → task .transfer .pass ≡ Read
+      → markOf (slotOf img site head (look .slot) .mark) ≡ Data deleted broken
+      → R (Searching look) (readFound other broken (look .slot) site task fifo)
+  unfolding readFound
+  read-rule-at look deleted broken true o h w m =
+      by-test (task .transfer .sk) (R (Searching look)) _ _
+      (λ t. skips look deleted broken refl h w m (λ e. true≢false (o ∙ beq-same _ _ e))
+      (follow-rule (look .slot) site (withOther true task) fifo Nothing (fifo .tc)))
+      (λ t. toRead look deleted broken true refl h w m (λ e. o ∙ beq-same _ _ e) refl)
+  read-rule-at look deleted broken false o h w m = toRead look deleted broken false refl h w m (λ e. refl) refl
+
+  data-rule : (look : Search) (deleted broken : Bool) (pass : Pass) → task .transfer .pass ≡ pass
+      → hits img site head task (look .slot) ≡ true
+      → markOf (slotOf img site head (look .slot) .mark) ≡ Data deleted broken
+      → R (Searching look) (dataFound pass deleted broken (look .slot) site task fifo)
+  unfolding dataFound
+  data-rule look deleted broken Read w h m = read-rule-at look deleted broken _ refl h w m
+  data-rule look deleted broken Write w h m = toWrite look refl h w refl
+
+  bare-rule : (look : Search) (pass : Pass) → task .transfer .pass ≡ pass
+      → hits img site head task (look .slot) ≡ true → markOf (slotOf img site head (look .slot) .mark) ≡ NoData
+      → R (Searching look) (bareFound pass (look .slot) site task fifo)
+  unfolding bareFound moveFails moveEnd endOf
+  bare-rule look Read w h m = noData look _ refl h w m refl
+  bare-rule look Write w h m = toWrite look refl h w refl
+
+  looked-rule : (look : Search) (mark : Mark) → markOf (slotOf img site head (look .slot) .mark) ≡ mark
+      → R (Searching look) (lookedOf mark (slotOf img site head (look .slot) .id) look site task fifo)
+  unfolding lookedOf
+  looked-rule look NoId e = missed-rule look look refl refl (ap (hit-by look) e)
+  looked-rule look (Data deleted broken) e =
+      by-test (same-at look) (R (Searching look)) _ _
+      (λ t. data-rule look deleted broken (task .transfer .pass) refl (ap (hit-by look) e ∙ t) e)
+      (λ t. missed-rule look _ refl refl (ap (hit-by look) e ∙ t))
+  looked-rule look NoData e =
+      by-test (same-at look) (R (Searching look)) _ _
+      (λ t. bare-rule look (task .transfer .pass) refl (ap (hit-by look) e ∙ t) e)
+      (λ t. missed-rule look _ refl refl (ap (hit-by look) e ∙ t))
+
+  -- 01 Read
+  on-rule : (sector : Sector) (done : ℕ) (f : Fifo)
+      → R (Reading sector done) (readOn sector done site task f)
+  unfolding readOn
+  on-rule sector done f =
+      by-test (lastByte site done) (R (Reading sector done)) _ _
+      (λ t. moves-last sector done f refl (leb-true _ _ t) refl)
+      (λ t. moves sector done f refl (leb-false _ _ t) refl)
+
+  read-rule : (sector : Sector) (done : ℕ)
+      → R (Reading sector done) (readOf sector done site task head img fifo efifo fifothr)
+  unfolding readOf overrun moveFails moveEnd endOf
+  read-rule sector done =
+      by-test (fifo .tc) (R (Reading sector done)) _ _
+      (λ t. on-rule sector done fifo)
+      (λ t. by-test (fullOf efifo fifo) (R (Reading sector done)) _ _
+      (λ u. late _ refl refl)
+      (λ u. on-rule sector done _))
+
+  drained-rule : (sector : Sector) (looks : ℕ)
+      → R (Draining sector looks) (drainedOf sector site task fifo)
+  unfolding drainedOf moveFails moveEnd endOf
+  drained-rule sector looks =
+      by-test (sector .broken) (R (Draining sector looks)) _ _
+      (λ t. data-error sector looks _ refl t refl (λ o. rw o refl) refl)
+      (λ t. by-test (sector .other) (R (Draining sector looks)) _ _
+      (λ u. other-kind sector looks _ refl t refl)
+      (λ u. drained sector looks refl t (follow-rule (sector .slot) site task fifo Nothing (fifo .tc))))
+
+  drain-rule : (sector : Sector) (looks : ℕ) → R (Draining sector looks) (drainOf sector looks site task fifo)
+  unfolding drainOf moveFails moveEnd endOf
+  drain-rule sector looks =
+      by-test (eqb (fifo .count) 0) (R (Draining sector looks)) _ _
+      (λ t. drained-rule sector looks)
+      (λ t. by-test (leb 63 looks) (R (Draining sector looks)) _ _
+      (λ u. late _ refl refl)
+      (λ u. drains sector looks refl (leb-false 63 looks u) refl))
+
+  -- 01 Write
+  await-rule : (slot wait : ℕ) → R (Awaiting slot wait) (awaitOf slot wait site task head fifo)
+  unfolding awaitOf moveFails moveEnd endOf
+  await-rule slot wait =
+      by-test (eqb (fifo .count) 0) (R (Awaiting slot wait)) _ _
+      (λ t. by-test (leb 63 wait) (R (Awaiting slot wait)) _ _
+      (λ u. late _ refl refl)
+      (λ u. waits slot wait refl (leb-false 63 wait u) refl))
+      (λ t. begins slot wait refl (pos-of t) refl)
+
+  dry-rule : (slot done : ℕ) → done < passBytes site → fifo .count ≡ 0
+      → R (Storing slot done) (dryOf slot done site task head fifo)
+  unfolding dryOf underrun putOf moveFails moveEnd endOf
+  dry-rule slot done l z =
+      by-test (fifo .tc) (R (Storing slot done)) _ _
+      (λ t. pads slot done refl l z t refl)
+      (λ t. late _ refl refl)
+
+  store-rule : (slot done : ℕ)
+      → R (Storing slot done) (storeOf slot done site task head fifo efifo fifothr)
+  unfolding storeOf writtenOf putOf
+  store-rule slot done =
+      by-test (leb (passBytes site) done) (R (Storing slot done)) _ _
+      (λ t. finishes slot done refl (leb-true _ _ t) (follow-rule slot site task fifo _ _))
+      (λ t. by-test (eqb (fifo .count) 0) (R (Storing slot done)) _ _
+      (λ u. dry-rule slot done (leb-false _ _ t) (eqb-true (fifo .count) 0 u))
+      (λ u. puts slot done refl (leb-false _ _ t) (pos-of u) refl))
+
+  turn-rule : (slot : ℕ) → R (Turning slot) (turnOf slot site task head fifo)
+  unfolding turnOf moveFails moveEnd endOf
+  turn-rule slot =
+      by-test (hasTrack (site .disk) head (site .side)) (R (Turning slot)) _ _
+      (λ t. turned-over slot refl refl)
+      (λ t. noSide slot _ refl refl)
+
+-- a tick of a transfer whose disk is as it was goes by one of the rules
+pub transfer-rule : (head : ℕ) (img : List ℕ) (efifo : Bool) (fifothr : ℕ) (site : Site) (task : Task) (fifo : Fifo)
+    (stage : Stage)
+    → Rule head img efifo fifothr site task fifo stage (stageOf stage site task head img fifo efifo fifothr)
+unfolding stageOf searchOf
+transfer-rule head img efifo fifothr site task fifo (Searching look) =
+    looked-rule head img efifo fifothr site task fifo look _ refl
+transfer-rule head img efifo fifothr site task fifo (Turning slot) =
+    turn-rule head img efifo fifothr site task fifo slot
+transfer-rule head img efifo fifothr site task fifo (Reading sector done) =
+    read-rule head img efifo fifothr site task fifo sector done
+transfer-rule head img efifo fifothr site task fifo (Draining sector looks) =
+    drain-rule head img efifo fifothr site task fifo sector looks
+transfer-rule head img efifo fifothr site task fifo (Awaiting slot wait) =
+    await-rule head img efifo fifothr site task fifo slot wait
+transfer-rule head img efifo fifothr site task fifo (Storing slot done) =
+    store-rule head img efifo fifothr site task fifo slot done

@@ -1,6 +1,6 @@
 -- Demand 3: "Power may go after any call of a write command: finished sectors hold exactly the host's bytes under their
--- good mark, the one begun holds new bytes then old ones under the broken mark, every other byte is as it was, the other
--- image untouched."
+-- good mark, the one begun holds new bytes then old ones under the broken mark, every other byte is as it was, the
+-- other image untouched."
 -- Assumes nothing.
 use Prim.Native.Nat.{ℕ, zero, suc, _+_, _*_, _<_, _≤_}
 use mathlib.Core.Bool.{Bool, true, false, cond}
@@ -21,6 +21,7 @@ use Rattle.image.specs.Disk.{diskIn}
 use Rattle.image.specs.Layout.{sizeOf, offsetOf, Has}
 use Rattle.image.specs.Mark.{byteOf}
 use Rattle.image.specs.Slot.{idAt}
+use Rattle.image.specs.Sound.{markIn}
 use Rattle.fdc.specs.declared.record.Controller.{Controller}
 use Rattle.fdc.specs.declared.record.Phase.the-variants.{Starting}
 use Rattle.fdc.specs.Record.{driveAt}
@@ -52,12 +53,15 @@ abbrev pub aimNo : Transfer → Aim → ℕ → Aim
 aimNo transfer aim zero = aim
 aimNo transfer aim (suc n) = onward transfer (aimNo transfer aim n)
 
--- where a sector of the command stands: in a slot of the track under the head, on the side in use, that has its address
+-- where a sector of the command stands: in a slot of the track under the head, on the side in use, that it matches (01
+-- Search: the mark isn't 0, C H R N equal the command's and N is the header's)
 pub record Stands (g : Geometry) (img : List ℕ) (cylinder : ℕ) (aim : Aim) (at : ℕ) : Type 0 where
   pub slot : ℕ
   pub has : Has g cylinder (aim .side) slot
   pub place : at ≡ offsetOf g cylinder (aim .side) slot
+  pub marked : 0 < getD img at 0
   pub address : idAt img at ≡ aim .id
+  pub size : aim .id .n ≡ g .n
 
 -- a finished sector, number n of the command: the good mark of the command's kind, and byte i is the host's byte
 -- n x B + i; past the host's bytes it is 0
@@ -116,6 +120,8 @@ pub record LeftBy (g : Geometry) (cylinder : ℕ) (transfer : Transfer) (aim : A
   pub others : (i : ℕ) → SparesAll (h .finished) i → SparesBegun (h .begun) i → getD img i 0 ≡ getD old i 0
   -- so are the addresses of all slots, and the length
   pub ids : (c s k : ℕ) → Has g c s k → idAt img (offsetOf g c s k) ≡ idAt old (offsetOf g c s k)
+  -- and a slot with a mark above 0 had one before
+  pub marked : (c s k : ℕ) → Has g c s k → 0 < markIn g img c s k → 0 < markIn g old c s k
   pub size : length img ≡ length old
 
 -- the track's cylinder is the head's

@@ -1,0 +1,447 @@
+-- A write command at work, tick by tick, at the engine's level: what it has left of the image so far, and where it
+-- stands (01 Search, Write, Next).
+-- Assumes nothing.
+use Prim.Native.Nat.{ℕ, zero, suc, _+_, _*_, _≤_, _<_}
+use native.Mathlib.Omega.{arith}
+use mathlib.Core.Bool.{Bool, true, false, false≢true}
+use mathlib.Core.List.{List, [], _∷_, _++_}
+use mathlib.Core.Path.{_≡_, refl, sym, ap, _∙_, subst}
+use lib.Dec.{eqb, ltb}
+use lib.ListN.{length, getD, set, length-append}
+use borrow.Author.Tests.{ltb-true, eqb-true, eq-eqb, ne-eqb}
+use Rattle.image.proofs.TestLaws.{by-test, both}
+use Rattle.image.specs.declared.layout.Geometry.{Geometry}
+use Rattle.image.specs.declared.lent.Effect.the-variants.{Nothing, Store}
+use Rattle.image.specs.declared.mark.Mark.the-variants.{Data}
+use Rattle.image.specs.declared.slot.Id.{Id}
+use Rattle.image.specs.Disk.{Fits}
+use Rattle.image.specs.Layout.{sizeOf, offsetOf, Has}
+use Rattle.image.specs.Lent.{storedIn}
+use Rattle.image.specs.Mark.{byteOf, markOf}
+use Rattle.image.specs.Slot.{idAt}
+use Rattle.chip.specs.declared.fifo.Fifo.{Fifo}
+use Rattle.chip.specs.Fifo.{held, frontOf, drawnOf}
+use Rattle.chip.specs.Fifo.{Fits as FitsFifo}
+use Rattle.sectors.specs.declared.order.Pass.{Pass}
+use Rattle.sectors.specs.declared.order.Pass.the-variants.{Read, Write}
+use Rattle.sectors.specs.declared.order.Transfer.{Transfer}
+use Rattle.sectors.specs.declared.work.Site.{Site}
+use Rattle.sectors.specs.declared.work.Stage.{Stage}
+use Rattle.sectors.specs.declared.work.Stage.the-variants.{Searching, Turning, Reading, Draining, Awaiting, Storing}
+use Rattle.sectors.specs.declared.work.Step.{Step}
+use Rattle.sectors.specs.declared.work.Task.{Task}
+use Rattle.sectors.specs.declared.work.Then.{Then}
+use Rattle.sectors.specs.declared.work.Then.the-variants.{Ends, Works}
+use Rattle.sectors.specs.declared.work.Work.{Work}
+use Rattle.sectors.specs.declared.work.Work.the-variants.{Identifying, Moving, Formatting}
+use Rattle.sectors.specs.Follow.{freshAt, turnOf}
+use Rattle.sectors.specs.Result.{endOf, moveEnd, moveFails, movesOf}
+use Rattle.sectors.specs.Search.{matches}
+use Rattle.engine.specs.Step.{stageOf}
+use Rattle.sectors.specs.Track.{hasTrack, markPlace, dataPlace, nextSlot, passBytes}
+use Rattle.sectors.specs.Write.{writtenMark}
+use Rattle.demands.specs.History.{Begun, no-one, some-of, History, noted}
+use Rattle.demands.specs.PowerCut.{Aim, aimNo, Stands, HalfDone, LeftBy}
+use Rattle.demands.proofs.AddressLaws.{AllBehind, all-step, all-turn, onward-turn, onward-stay}
+use Rattle.demands.proofs.FifoStream.{Open, Stream, open-drawn, stream-told, held-drawn, held-dry}
+use Rattle.demands.proofs.LeftLaws.{storedCount, left-begins, left-puts, left-finishes}
+use Rattle.demands.proofs.TickRules.{marked, hits, NextRule, stops, turns, steps, Rule, notFound, noData, noSide, late, misses, passes, toWrite, toRead, skips, turned-over, waits, begins, puts, pads, finishes, moves, moves-last, drains, data-error, other-kind, drained}
+
+-- the slot after the one used is one of the track's
+next-slot-below : (slot slots : ℕ) → 1 ≤ slots → nextSlot slot slots < slots
+next-slot-below slot slots h =
+    by-test (ltb (slot + 1) slots) (λ (n : ℕ). n < slots) (slot + 1) 0 (λ t. ltb-true (slot + 1) slots t)
+    (λ t. omega arith)
+
+-- an address that matches is the one sought
+matches-id : (id wanted : Id) (n : ℕ) → matches id wanted n ≡ true → (id ≡ wanted) × (id .n ≡ n)
+matches-id id wanted n t =
+    let (chrn, n″) = both _ (eqb (id .n) n) t in
+    let (chr, n′) = both _ (eqb (id .n) (wanted .n)) chrn in
+    let (ch, r) = both _ (eqb (id .r) (wanted .r)) chr in
+    let (c, h) = both (eqb (id .c) (wanted .c)) (eqb (id .h) (wanted .h)) ch in
+    let e : id ≡ record { c = wanted .c; h = wanted .h; r = wanted .r; n = wanted .n } =
+    rw (
+      ← eqb-true (id .c) (wanted .c) c,
+      ← eqb-true (id .h) (wanted .h) h,
+      ← eqb-true (id .r) (wanted .r) r,
+      ← eqb-true (id .n) (wanted .n) n′,
+    ) in
+    (e, eqb-true (id .n) n n″)
+
+-- a mark that counts as an ID is above 0
+marked-above : (v : ℕ) → marked (markOf v) ≡ true → 0 < v
+unfolding markOf
+marked-above zero t = absurd (false≢true t)
+marked-above (suc v) t = omega arith
+
+-- 01 Next: after a turn it goes on only where the track has that side
+turned-has : (slot : ℕ) (site : Site) (task : Task) (head : ℕ) (fifo : Fifo)
+    → turnOf slot site task head fifo ≡ movesOf (Searching (freshAt slot)) site task fifo Nothing
+    → hasTrack (site .disk) head (site .side) ≡ true
+unfolding turnOf moveFails moveEnd endOf
+turned-has slot site task head fifo =
+    by-test (hasTrack (site .disk) head (site .side))
+    (λ (s : Step). s ≡ movesOf (Searching (freshAt slot)) site task fifo Nothing
+    → hasTrack (site .disk) head (site .side) ≡ true)
+    _ _ (λ t e. t) (λ t e. let f = ap (λ (s : Step). s .then) e in let z : _≡_ {A = ℕ} 0 1 = cc in absurd (omega arith))
+
+-- The history after a store.
+
+abbrev grown : ℕ → List ℕ → History → History
+grown at bytes h = record { host = h .host; told = h .told; finished = h .finished; begun = some-of at bytes }
+
+abbrev closed : ℕ → List ℕ → History → History
+closed at bytes h =
+    record {
+      host = h .host;
+      told = h .told;
+      finished = record { at = at; bytes = bytes } ∷ h .finished;
+      begun = no-one;
+    }
+
+noted-began : (p v at : ℕ) (h : History) → p ≡ at → h .begun ≡ no-one → noted (Store p v) h ≡ grown at [] h
+noted-began p v at h e b = rw (b, e)
+
+noted-grown : (p v at : ℕ) (bytes : List ℕ) (h : History) → p ≡ at + 5 + length bytes → h .begun ≡ some-of at bytes
+    → noted (Store p v) h ≡ grown at (bytes ++ (v ∷ [])) h
+noted-grown p v at bytes h e b = rw (b, ne-eqb p at (λ t. omega arith))
+
+noted-closed : (p v at : ℕ) (bytes : List ℕ) (h : History) → p ≡ at → h .begun ≡ some-of at bytes
+    → noted (Store p v) h ≡ closed at bytes h
+noted-closed p v at bytes h e b = rw (b, eq-eqb p at e)
+
+module _ (g : Geometry) (cylinder drive : ℕ) (transfer : Transfer) (aim : Aim) (old : List ℕ) where
+  -- what is left of the image so far
+  abbrev pub Sofar : List ℕ → History → Type 0
+  Sofar img h = LeftBy g cylinder transfer aim old img h
+
+  -- the aim of the sector in hand
+  abbrev pub aimNow : History → Aim
+  aimNow h = aimNo transfer aim (length (h .finished))
+
+  -- the sector in hand stands there
+  abbrev pub InHand : Aim → ℕ → Type 0
+  InHand now slot = Stands g old cylinder now (offsetOf g cylinder (now .side) slot)
+
+  pub record Half (begun : Begun) (now : Aim) (slot done : ℕ) : Type 0 where
+    pub bytes : List ℕ
+    pub some : begun ≡ some-of (offsetOf g cylinder (now .side) slot) bytes
+    pub size : length bytes ≡ done
+
+  -- where it stands; which sector is begun
+  abbrev pub Link : Aim → Begun → Stage → Type 0
+  Link now begun (Searching look) = Has g cylinder (now .side) (look .slot) × (begun ≡ no-one)
+  Link now begun (Turning slot) = (cylinder < g .cylinders) × (slot < g .slots) × (begun ≡ no-one)
+  Link now begun (Reading sector done) = ⊥
+  Link now begun (Draining sector looks) = ⊥
+  Link now begun (Awaiting slot wait) = InHand now slot × (begun ≡ no-one)
+  Link now begun (Storing slot done) = InHand now slot × Half begun now slot done
+
+  pub record Busy (efifo : Bool) (site : Site) (task : Task) (stage : Stage) (fifo : Fifo) (img : List ℕ) (h : History)
+      : Type 0 where
+    pub disk : site .disk ≡ g
+    pub drive-is : site .drive ≡ drive
+    pub told-to : task .transfer ≡ transfer
+    pub side : site .side ≡ aimNow h .side
+    pub id : task .id ≡ aimNow h .id
+    pub all : AllBehind transfer aim (length (h .finished))
+    pub link : Link (aimNow h) (h .begun) stage
+    pub request : Open efifo fifo
+    pub stream : Stream (h .host) (held fifo) (storedCount g h) (fifo .tc)
+    pub tc : fifo .tc ≡ true → h .told ≡ true
+    pub sofar : Sofar img h
+
+  -- after a tick: it goes on, or it is over
+  abbrev pub OnWork : Bool → Work → Fifo → List ℕ → History → Type 0
+  OnWork efifo (Identifying site slot looks) fifo img h = ⊥
+  OnWork efifo (Moving site task stage) fifo img h = Busy efifo site task stage fifo img h
+  OnWork efifo (Formatting site plan form) fifo img h = ⊥
+
+  abbrev pub OnThen : Bool → Then → Fifo → List ℕ → History → Type 0
+  OnThen efifo (Ends verdict) fifo img h = Sofar img h
+  OnThen efifo (Works work) fifo img h = OnWork efifo work fifo img h
+
+  abbrev pub OnStep : Bool → Step → List ℕ → History → Type 0
+  OnStep efifo o img h = OnThen efifo (o .then) (o .fifo) (storedIn (o .effect) img) (noted (o .effect) h)
+
+  module _ (fits : Fits g old) (hr : aim .id .r < 256) (he : transfer .eot < 256) (wr : transfer .pass ≡ Write)
+      (efifo : Bool) (fifothr : ℕ) where
+    -- a tick that stores nothing goes to another stage with the same sector
+    busy-to : {site : Site} {task : Task} {stage : Stage} {fifo : Fifo} {img : List ℕ} {h : History} (stage′ : Stage)
+        → Busy efifo site task stage fifo img h → Link (aimNow h) (h .begun) stage′
+        → Busy efifo site task stage′ fifo img h
+    busy-to stage′ b l =
+        record {
+          disk = b .disk;
+          drive-is = b .drive-is;
+          told-to = b .told-to;
+          side = b .side;
+          id = b .id;
+          all = b .all;
+          link = l;
+          request = b .request;
+          stream = b .stream;
+          tc = b .tc;
+          sofar = b .sofar;
+        }
+
+    -- it is a write
+    no-read : {site : Site} {task : Task} {stage : Stage} {fifo : Fifo} {img : List ℕ} {h : History} {A : Type 0}
+        → Busy efifo site task stage fifo img h → task .transfer .pass ≡ Read → A
+    no-read b e =
+        let w : _≡_ {A = Pass} Write Read = sym wr ∙ ap (λ (t : Transfer). t .pass) (sym (b .told-to)) ∙ e in
+        let z : _≡_ {A = ℕ} 0 1 = cc in
+        absurd (omega arith)
+
+    mark-is : {site : Site} {task : Task} {stage : Stage} {fifo : Fifo} {img : List ℕ} {h : History} (slot : ℕ)
+        → Busy efifo site task stage fifo img h
+        → markPlace site cylinder slot ≡ offsetOf g cylinder (aimNow h .side) slot
+    unfolding markPlace
+    mark-is slot b = rw (b .disk, b .side)
+
+    -- 01 Search: a match is of the sector sought, in the image as it was
+    found : {site : Site} {task : Task} {stage : Stage} {fifo : Fifo} {img : List ℕ} {h : History} (slot : ℕ)
+        → Busy efifo site task stage fifo img h → Has g cylinder (aimNow h .side) slot
+        → hits img site cylinder task slot ≡ true → InHand (aimNow h) slot
+    found {site} {task} {stage} {fifo} {img} {h} slot b has t =
+        let p : markPlace site cylinder slot ≡ offsetOf g cylinder (aimNow h .side) slot = mark-is slot b in
+        let (m, i) = both (marked (markOf (getD img (markPlace site cylinder slot) 0))) _ t in
+        let (e, n) = matches-id (idAt img (markPlace site cylinder slot)) (task .id) (site .disk .n) i in
+        let m′ : 0 < getD img (offsetOf g cylinder (aimNow h .side) slot) 0 = rw p at (marked-above _ m) in
+        let e′ : idAt img (offsetOf g cylinder (aimNow h .side) slot) ≡ task .id = rw p at e in
+        record {
+          slot = slot;
+          has = has;
+          place = refl;
+          marked = b .sofar .marked cylinder (aimNow h .side) slot has m′;
+          address = sym (b .sofar .ids cylinder (aimNow h .side) slot has) ∙ e′ ∙ b .id;
+          size = ap (λ (x : Id). x .n) (sym (b .id) ∙ sym e) ∙ n ∙ ap (λ (x : Geometry). x .n) (b .disk);
+        }
+
+    -- a store goes to the next byte of the same sector
+    busy-stored : {site : Site} {task : Task} {stage : Stage} {fifo : Fifo} {img : List ℕ} {h : History} (slot done : ℕ)
+        (fifo′ : Fifo) (img′ bytes : List ℕ) → Busy efifo site task stage fifo img h → InHand (aimNow h) slot
+        → length bytes ≡ done → Open efifo fifo′
+        → Stream (h .host) (held fifo′) (length (h .finished) * sizeOf (g .n) + length bytes) (fifo′ .tc)
+        → (fifo′ .tc ≡ true → h .told ≡ true)
+        → Sofar img′ (grown (offsetOf g cylinder (aimNow h .side) slot) bytes h)
+        → Busy efifo site task (Storing slot done) fifo′ img′
+        (grown (offsetOf g cylinder (aimNow h .side) slot) bytes h)
+    busy-stored slot done fifo′ img′ bytes b hand z o s t k =
+        record {
+          disk = b .disk;
+          drive-is = b .drive-is;
+          told-to = b .told-to;
+          side = b .side;
+          id = b .id;
+          all = b .all;
+          link = (hand, record { bytes = bytes; some = refl; size = z });
+          request = o;
+          stream = s;
+          tc = t;
+          sofar = k;
+        }
+
+    module _ {site : Site} {task : Task} {stage : Stage} {fifo : Fifo} {img : List ℕ} {h : History}
+        (b : Busy efifo site task stage fifo img h) where
+      abbrev here : ℕ → ℕ
+      here slot = offsetOf g cylinder (aimNow h .side) slot
+
+      -- 01 Write: the broken mark
+      busy-begins : (slot : ℕ) → InHand (aimNow h) slot → h .begun ≡ no-one
+          → Busy efifo site task (Storing slot 0) fifo (set img (markPlace site cylinder slot) (writtenMark true task))
+          (noted (Store (markPlace site cylinder slot) (writtenMark true task)) h)
+      busy-begins slot hand none =
+          let p = mark-is slot b in
+          let v : writtenMark true task ≡ byteOf (Data (transfer .deleted) true) = rw (b .told-to) in
+          let left = left-begins g cylinder transfer aim old fits hr img h (b .sofar) none (b .all) (here slot)
+          hand in
+          let note = noted-began (here slot) (byteOf (Data (transfer .deleted) true)) (here slot) h refl none in
+          let s : Stream (h .host) (held fifo) (length (h .finished) * sizeOf (g .n) + 0) (fifo .tc) =
+          rw none at (b .stream) in
+          rw (p, v, note)
+          (busy-stored slot 0 fifo _ [] b hand refl (b .request) s (b .tc)
+          (rw note at left))
+
+      -- 01 Write: one byte, the host's, or a zero after TC
+      busy-puts : (slot done v : ℕ) (fifo′ : Fifo) → InHand (aimNow h) slot → Half (h .begun) (aimNow h) slot done
+          → done < passBytes site
+          → v ≡ getD (h .host) (storedCount g h) 0 → Open efifo fifo′ → fifo′ .tc ≡ fifo .tc
+          → Stream (h .host) (held fifo′) (storedCount g h + 1) (fifo .tc)
+          → Busy efifo site task (Storing slot (done + 1)) fifo′ (set img (dataPlace site cylinder slot done) v)
+          (noted (Store (dataPlace site cylinder slot done) v) h)
+      unfolding dataPlace
+      busy-puts slot done v fifo′ hand half l e o t s =
+          let bytes = half .bytes in
+          let p : markPlace site cylinder slot + 5 + done ≡ here slot + 5 + length bytes =
+          omega (arith, mark-is slot b, half .size) in
+          let short : length bytes < sizeOf (g .n) = rw (half .size) (rw (b .disk) at l) in
+          let k : storedCount g h ≡ length (h .finished) * sizeOf (g .n) + length bytes = rw (half .some) in
+          let e′ : v ≡ getD (h .host) (length (h .finished) * sizeOf (g .n) + length bytes) 0 = rw k at e in
+          let s′ : Stream (h .host) (held fifo′) (length (h .finished) * sizeOf (g .n) + length bytes + 1)
+          (fifo .tc) = rw k at s in
+          let left =
+          left-puts g cylinder transfer aim old fits hr img h (b .sofar) (here slot) bytes (half .some) (b .all)
+          (here slot + 5 + length bytes) v short refl e′
+          (λ m. b .tc (stream-told (h .host) (held fifo′) _ (fifo .tc) s′ m)) in
+          let note = noted-grown (here slot + 5 + length bytes) v (here slot) bytes h refl (half .some) in
+          let n : length (bytes ++ (v ∷ [])) ≡ length bytes + 1 = length-append bytes (v ∷ []) in
+          let m : length (h .finished) * sizeOf (g .n) + length bytes + 1
+          ≡ length (h .finished) * sizeOf (g .n) + length (bytes ++ (v ∷ [])) = omega arith in
+          rw (p, note)
+          (busy-stored slot (done + 1) fifo′ _ (bytes ++ (v ∷ [])) b hand (omega (arith, half .size)) o
+          (subst (λ (j : ℕ). Stream (h .host) (held fifo′) j (fifo′ .tc)) m (rw t s′))
+          (λ q. b .tc (sym t ∙ q))
+          (rw note at left))
+
+      -- 01 Write: the good mark
+      closes : (slot done : ℕ) → InHand (aimNow h) slot → (half : Half (h .begun) (aimNow h) slot done)
+          → passBytes site ≤ done
+          → Sofar (set img (markPlace site cylinder slot) (writtenMark false task)) (closed (here slot) (half .bytes) h)
+          × (storedCount g h ≡ storedCount g (closed (here slot) (half .bytes) h))
+      closes slot done hand half l =
+          let bytes = half .bytes in
+          let p = mark-is slot b in
+          let v : writtenMark false task ≡ byteOf (Data (transfer .deleted) false) = rw (b .told-to) in
+          let hd : Stands g old cylinder (aimNow h) (here slot)
+          × HalfDone g (transfer .deleted) old img (h .host) (length (h .finished)) (here slot) (length bytes) =
+          rw (half .some) at (b .sofar .begun) in
+          let l′ : sizeOf (g .n) ≤ done = rw (b .disk) at l in
+          let z : length bytes ≡ sizeOf (g .n) = omega (arith, half .size, hd .1 .short) in
+          let left =
+          left-finishes g cylinder transfer aim old fits hr img h (b .sofar) (here slot) bytes (half .some)
+          (b .all) z in
+          let note = noted-closed (here slot) (byteOf (Data (transfer .deleted) false)) (here slot) bytes h refl
+          (half .some) in
+          let k : storedCount g h ≡ length (h .finished) * sizeOf (g .n) + length bytes = rw (half .some) in (
+            rw (p, v) (rw note at left),
+            omega arith,
+          )
+
+      -- and Next in that same tick
+      busy-next : (slot done : ℕ) (o : Step) → InHand (aimNow h) slot → Half (h .begun) (aimNow h) slot done
+          → passBytes site ≤ done
+          → NextRule slot site task fifo (Store (markPlace site cylinder slot) (writtenMark false task)) o
+          → OnStep efifo o img h
+      busy-next slot done o hand half l (stops verdict e) =
+          let note = noted-closed (markPlace site cylinder slot) (writtenMark false task) (here slot)
+          (half .bytes) h (mark-is slot b) (half .some) in
+          rw (e, note) (closes slot done hand half l .0)
+      busy-next slot done o hand half l (turns r t d e) =
+          let note = noted-closed (markPlace site cylinder slot) (writtenMark false task) (here slot)
+          (half .bytes) h (mark-is slot b) (half .some) in
+          let (k, n) = closes slot done hand half l in
+          let r′ : aimNow h .id .r ≡ transfer .eot = rw (b .id, b .told-to) at r in
+          let z : aimNow h .side ≡ 0 = sym (b .side) ∙ d in
+          rw (e, note)
+          (record {
+            disk = b .disk;
+            drive-is = b .drive-is;
+            told-to = b .told-to;
+            side = sym (onward-turn transfer (aimNow h) r′);
+            id = rw (b .id, b .told-to, b .side);
+            all = all-turn transfer aim (length (h .finished)) (b .all) hr r′ z;
+            link = (hand .has .on-disk, rw (b .disk) (next-slot-below slot (g .slots) (fits .range .slots .0)), refl);
+            request = b .request;
+            stream = subst (λ (j : ℕ). Stream (h .host) (held fifo) j (fifo .tc)) n (b .stream);
+            tc = b .tc;
+            sofar = k;
+          })
+      busy-next slot done o hand half l (steps r e) =
+          let note = noted-closed (markPlace site cylinder slot) (writtenMark false task) (here slot)
+          (half .bytes) h (mark-is slot b) (half .some) in
+          let (k, n) = closes slot done hand half l in
+          let r′ : aimNow h .id .r ≡ transfer .eot → ⊥ = rw (b .id, b .told-to) at r in
+          let stay = onward-stay transfer (aimNow h) r′ in
+          rw (e, note)
+          (record {
+            disk = b .disk;
+            drive-is = b .drive-is;
+            told-to = b .told-to;
+            side = b .side ∙ sym stay;
+            id = rw (b .id, b .told-to, b .side);
+            all = all-step transfer aim (length (h .finished)) (b .all) hr he r′;
+            link = (
+              record {
+                on-disk = hand .has .on-disk;
+                on-cylinder = omega (arith, hand .has .on-cylinder);
+                on-track = rw (b .disk) (next-slot-below slot (g .slots) (fits .range .slots .0));
+              },
+              refl,
+            );
+            request = b .request;
+            stream = subst (λ (j : ℕ). Stream (h .host) (held fifo) j (fifo .tc)) n (b .stream);
+            tc = b .tc;
+            sofar = k;
+          })
+
+      -- a tick of it
+      pub busy-rule : (o : Step) → FitsFifo efifo fifo → o ≡ stageOf stage site task cylinder img fifo efifo fifothr
+          → Rule cylinder img efifo fifothr site task fifo stage o → OnStep efifo o img h
+      unfolding stageOf hasTrack drawnOf
+      busy-rule o f is (notFound look verdict p t l m e) = rw e (b .sofar)
+      busy-rule o f is (noData look verdict p t r m e) = rw e (b .sofar)
+      busy-rule o f is (noSide slot verdict p e) = rw e (b .sofar)
+      busy-rule o f is (late verdict v e) = rw e (b .sofar)
+      busy-rule o f is (misses look on p t l a q e) =
+          let (k, none) = rw p at (b .link) in
+          let l′ : look .slot + 1 < g .slots = rw (b .disk) at l in
+          rw e
+          (busy-to (Searching on) b (
+            record {
+              on-disk = k .on-disk;
+              on-cylinder = k .on-cylinder;
+              on-track = omega arith;
+            },
+            none,
+          ))
+      busy-rule o f is (passes look on p t l q a c e) =
+          let (k, none) = rw p at (b .link) in
+          rw e
+          (busy-to (Searching on) b (
+            record {
+              on-disk = k .on-disk;
+              on-cylinder = k .on-cylinder;
+              on-track = omega (arith, k .on-track);
+            },
+            none,
+          ))
+      busy-rule o f is (toWrite look p t w e) =
+          let (k, none) = rw p at (b .link) in
+          rw e (busy-to (Awaiting (look .slot) 0) b (found (look .slot) b k t, none))
+      busy-rule o f is (toRead look deleted broken other p t r m d e) = no-read b r
+      busy-rule o f is (skips look deleted broken p t r m d n) = no-read b r
+      busy-rule o f is (turned-over slot p e) =
+          let (on-disk, on-track, none) = rw p at (b .link) in
+          let t : hasTrack (site .disk) cylinder (site .side) ≡ true =
+          turned-has slot site task cylinder fifo (sym (rw p at is) ∙ e) in
+          let t′ : ltb (site .side) (site .disk .heads) ≡ true =
+          both (ltb cylinder (site .disk .cylinders)) (ltb (site .side) (site .disk .heads)) t .1 in
+          let t″ : ltb (aimNow h .side) (g .heads) ≡ true = rw (b .disk, b .side) at t′ in
+          rw e
+          (busy-to (Searching (freshAt slot)) b
+          (record { on-disk = on-disk; on-cylinder = ltb-true _ _ t″; on-track = on-track }, none))
+      busy-rule o f is (waits slot wait p l e) = rw e (busy-to (Awaiting slot (wait + 1)) b (rw p at (b .link)))
+      busy-rule o f is (begins slot wait p l e) =
+          let (hand, none) = rw p at (b .link) in
+          rw e (busy-begins slot hand none)
+      busy-rule o f is (puts slot done p l c e) =
+          let (hand, half) = rw p at (b .link) in
+          let (v, s) = held-drawn efifo fifo f (h .host) (storedCount g h) fifothr c (b .stream) in
+          rw e
+          (busy-puts slot done (frontOf fifo) (drawnOf efifo fifothr fifo) hand half l v
+          (open-drawn efifo fifothr fifo (b .request)) refl s)
+      busy-rule o f is (pads slot done p l c t e) =
+          let (hand, half) = rw p at (b .link) in
+          let (v, s) = held-dry efifo fifo f (h .host) (storedCount g h) c t (b .stream) in
+          rw e (busy-puts slot done 0 fifo hand half l (sym v) (b .request) refl s)
+      busy-rule o f is (finishes slot done p l n) =
+          let (hand, half) = rw p at (b .link) in
+          busy-next slot done o hand half l n
+      busy-rule o f is (moves sector done fifo′ p l e) = absurd (rw p at (b .link))
+      busy-rule o f is (moves-last sector done fifo′ p l e) = absurd (rw p at (b .link))
+      busy-rule o f is (drains sector looks p l e) = absurd (rw p at (b .link))
+      busy-rule o f is (data-error sector looks verdict p q r s e) = absurd (rw p at (b .link))
+      busy-rule o f is (other-kind sector looks verdict p q e) = absurd (rw p at (b .link))
+      busy-rule o f is (drained sector looks p q n) = absurd (rw p at (b .link))

@@ -1,0 +1,209 @@
+-- A read of its own kind that starts with a sector under the broken mark: every tick of it goes on towards that
+-- sector's end, and it ends with the data error, or late (01 Search, Read).
+-- Assumes nothing.
+use Prim.Native.Nat.{ℕ, _+_, _≤_, _<_}
+use native.Mathlib.Omega.{arith}
+use mathlib.Core.Bool.{Bool, true, false, _&&_, true≢false}
+use mathlib.Core.List.{List}
+use mathlib.Core.Logic.{_⊎_, inl, inr}
+use mathlib.Core.Path.{_≡_, refl, sym, ap, _∙_}
+use lib.Dec.{eqb}
+use lib.ListN.{getD}
+use borrow.Author.Tests.{eqb-true, eq-eqb}
+use Rattle.chip.specs.declared.fifo.Fifo.{Fifo}
+use Rattle.sectors.specs.declared.order.Pass.{Pass}
+use Rattle.sectors.specs.declared.order.Pass.the-variants.{Read, Write}
+use Rattle.sectors.specs.declared.order.Transfer.{Transfer}
+use Rattle.sectors.specs.declared.work.Site.{Site}
+use Rattle.sectors.specs.declared.work.Stage.{Stage}
+use Rattle.sectors.specs.declared.work.Stage.the-variants.{Searching, Turning, Reading, Draining, Awaiting, Storing}
+use Rattle.sectors.specs.declared.work.Step.{Step}
+use Rattle.sectors.specs.declared.work.Task.{Task}
+use Rattle.sectors.specs.declared.work.Verdict.{Verdict}
+use Rattle.engine.specs.First.{taskOf}
+use Rattle.sectors.specs.Result.{movesOf}
+use Rattle.sectors.specs.Search.{matches}
+use Rattle.sectors.specs.Track.{markPlace}
+use Rattle.image.specs.declared.layout.Geometry.{Geometry}
+use Rattle.image.specs.declared.lent.Effect.the-variants.{Nothing}
+use Rattle.image.specs.declared.mark.Mark.{Mark}
+use Rattle.image.specs.declared.mark.Mark.the-variants.{Data, NoData}
+use Rattle.image.specs.declared.slot.Id.{Id}
+use Rattle.image.specs.Layout.{offsetOf, Has}
+use Rattle.image.specs.Mark.{markOf}
+use Rattle.image.specs.Slot.{idAt}
+use Rattle.image.proofs.TestLaws.{both, le-or-lt}
+use Rattle.demands.proofs.TickRules.{
+  marked,
+  hits,
+  endsWith,
+  Rule,
+  notFound,
+  noData,
+  noSide,
+  late,
+  misses,
+  passes,
+  toWrite,
+  toRead,
+  skips,
+  turned-over,
+  waits,
+  begins,
+  puts,
+  pads,
+  finishes,
+  moves,
+  moves-last,
+  drains,
+  data-error,
+  other-kind,
+  drained,
+}
+
+-- the command's first sector is slot t, under the broken mark of the command's own kind, and no slot before it has its
+-- address
+pub record StartsBroken (g : Geometry) (img : List ℕ) (head side t : ℕ) (transfer : Transfer) (id : Id) : Type 0 where
+  pub reads : transfer .pass ≡ Read
+  pub has : Has g head side t
+  pub mark : markOf (getD img (offsetOf g head side t) 0) ≡ Data (transfer .deleted) true
+  pub address : idAt img (offsetOf g head side t) ≡ id
+  pub size : id .n ≡ g .n
+  pub first : (k : ℕ) → k < t → marked (markOf (getD img (offsetOf g head side k) 0)) ≡ true
+      → idAt img (offsetOf g head side k) ≡ id → ⊥
+
+-- on the way to that sector's end
+abbrev pub OnStage : ℕ → Stage → Type 0
+OnStage t (Searching look) = look .slot ≤ t
+OnStage t (Turning slot) = ⊥
+OnStage t (Reading sector done) = sector .broken ≡ true
+OnStage t (Draining sector looks) = sector .broken ≡ true
+OnStage t (Awaiting slot wait) = ⊥
+OnStage t (Storing slot done) = ⊥
+
+-- ST1 20 and ST2 20, or ST1 10
+abbrev pub EndsSo : Verdict → Type 0
+EndsSo v = ((v .st1 ≡ 0x20) × (v .st2 ≡ 0x20)) ⊎ (v .st1 ≡ 0x10)
+
+abbrev pub siteAt : ℕ → ℕ → Geometry → Site
+siteAt drive side g = record { drive = drive; side = side; disk = g }
+
+-- what a tick of it gives
+pub data Follow (t : ℕ) (site : Site) (task : Task) (o : Step) : Type 0 where
+  goes : (stage : Stage) (fifo : Fifo) → OnStage t stage → o ≡ movesOf stage site task fifo Nothing
+      → Follow t site task o
+  ends : (verdict : Verdict) → EndsSo verdict → o ≡ endsWith verdict Nothing → Follow t site task o
+
+abbrev idOf : ℕ → ℕ → ℕ → ℕ → Id
+idOf c h r n = record { c = c; h = h; r = r; n = n }
+
+same-id : (x y : Id) → x .c ≡ y .c → x .h ≡ y .h → x .r ≡ y .r → x .n ≡ y .n → x ≡ y
+same-id x y p q r s =
+    ap (λ (v : ℕ). idOf v (x .h) (x .r) (x .n)) p ∙ ap (λ (v : ℕ). idOf (y .c) v (x .r) (x .n)) q
+    ∙ ap (λ (v : ℕ). idOf (y .c) (y .h) v (x .n)) r ∙ ap (λ (v : ℕ). idOf (y .c) (y .h) (y .r) v) s
+
+-- 01 Search: what matches has that address
+pub matched : (x y : Id) (n : ℕ) → matches x y n ≡ true → (x ≡ y) × (x .n ≡ n)
+matched x y n m =
+    let c : Bool = eqb (x .c) (y .c) in
+    let h : Bool = eqb (x .h) (y .h) in
+    let r : Bool = eqb (x .r) (y .r) in
+    let (m4, e5) = both (c && h && r && eqb (x .n) (y .n)) (eqb (x .n) n) m in
+    let (m3, e4) = both (c && h && r) (eqb (x .n) (y .n)) m4 in
+    let (m2, e3) = both (c && h) r m3 in
+    let (e1, e2) = both c h m2 in
+    (same-id x y (eqb-true _ _ e1) (eqb-true _ _ e2) (eqb-true _ _ e3) (eqb-true _ _ e4), eqb-true _ _ e5)
+
+data≢none : (deleted broken : Bool) → Data deleted broken ≡ NoData → ⊥
+data≢none deleted broken e = let z : _≡_ {A = ℕ} 0 1 = cc in omega arith
+
+read≢write : (p : Pass) → p ≡ Read → p ≡ Write → ⊥
+read≢write p e f = let z : _≡_ {A = ℕ} 0 1 = cc in omega arith
+
+-- the two facts of a mark
+mark-kind : (m : Mark) (a b c d : Bool) → m ≡ Data a b → m ≡ Data c d → (c ≡ a) × (d ≡ b)
+mark-kind m a b c d e f = (cc, cc)
+
+module _ (g : Geometry) (img : List ℕ) (head drive side t : ℕ) (transfer : Transfer) (id : Id)
+    (b : StartsBroken g img head side t transfer id) where
+  hit : hits img (siteAt drive side g) head (taskOf transfer id) t ≡ true
+  unfolding markPlace
+  hit =
+      simp (
+        b .mark,
+        eq-eqb _ _ (ap (λ (i : Id). i .c) (b .address)),
+        eq-eqb _ _ (ap (λ (i : Id). i .h) (b .address)),
+        eq-eqb _ _ (ap (λ (i : Id). i .r) (b .address)),
+        eq-eqb _ _ (ap (λ (i : Id). i .n) (b .address)),
+        eq-eqb _ _ (ap (λ (i : Id). i .n) (b .address) ∙ b .size),
+      )
+
+  -- a slot looked at on the way that does not match lies before t
+  before : (slot : ℕ) → slot ≤ t → hits img (siteAt drive side g) head (taskOf transfer id) slot ≡ false → slot < t
+  before slot l m = go (le-or-lt t slot)
+    where
+      go : (t ≤ slot) ⊎ (slot < t) → slot < t
+      go (inl a) = let e : slot ≡ t = omega arith in absurd (true≢false (sym hit ∙ (rw e at m)))
+      go (inr a) = a
+
+  -- and one that matches is t
+  here : (slot : ℕ) → slot ≤ t → hits img (siteAt drive side g) head (taskOf transfer id) slot ≡ true → slot ≡ t
+  unfolding markPlace
+  here slot l m =
+      let at : ℕ = offsetOf g head side slot in
+      let (is, same) = both (marked (markOf (getD img at 0))) (matches (idAt img at) id (g .n)) m in
+      go (le-or-lt t slot) is (matched (idAt img at) id (g .n) same .0)
+    where
+      go : (t ≤ slot) ⊎ (slot < t) → marked (markOf (getD img (offsetOf g head side slot) 0)) ≡ true
+          → idAt img (offsetOf g head side slot) ≡ id → slot ≡ t
+      go (inl a) is e = omega arith
+      go (inr a) is e = absurd (b .first slot a is e)
+
+  -- its mark, read where the search looks
+  mark-here : (slot : ℕ) → slot ≤ t → hits img (siteAt drive side g) head (taskOf transfer id) slot ≡ true
+      → markOf (getD img (markPlace (siteAt drive side g) head slot) 0) ≡ Data (transfer .deleted) true
+  unfolding markPlace
+  mark-here slot l m = rw (here slot l m) (b .mark)
+
+  module _ (efifo : Bool) (fifothr : ℕ) (fifo : Fifo) (stage : Stage) (o : Step) where
+    pub follow-rule : OnStage t stage
+        → Rule head img efifo fifothr (siteAt drive side g) (taskOf transfer id) fifo stage o
+        → Follow t (siteAt drive side g) (taskOf transfer id) o
+    follow-rule w (notFound look verdict p m l n e) =
+        let u : look .slot ≤ t = rw p at w in
+        absurd (omega (arith, before (look .slot) u m, b .has .on-track))
+    follow-rule w (noData look verdict p m k d e) =
+        let u : look .slot ≤ t = rw p at w in
+        absurd (data≢none _ _ (sym (mark-here (look .slot) u m) ∙ d))
+    follow-rule w (noSide slot verdict p e) = absurd (rw p at w)
+    follow-rule w (late verdict v e) = ends verdict (inr v) e
+    follow-rule w (misses look on p m l s q e) =
+        let u : look .slot ≤ t = rw p at w in
+        goes (Searching on) fifo (omega (arith, before (look .slot) u m)) e
+    follow-rule w (passes look on p m l z s q e) =
+        let u : look .slot ≤ t = rw p at w in
+        absurd (omega (arith, before (look .slot) u m, b .has .on-track))
+    follow-rule w (toWrite look p m k e) = absurd (read≢write (transfer .pass) (b .reads) k)
+    follow-rule w (toRead look deleted broken other p m k d f e) =
+        let u : look .slot ≤ t = rw p at w in
+        let (kind, whole) = mark-kind _ _ _ _ _ (mark-here (look .slot) u m) d in
+        goes _ fifo whole (rw (f kind) at e)
+    follow-rule w (skips look deleted broken p m k d f n) =
+        let u : look .slot ≤ t = rw p at w in
+        absurd (f (mark-kind _ _ _ _ _ (mark-here (look .slot) u m) d .0))
+    follow-rule w (turned-over slot p e) = absurd (rw p at w)
+    follow-rule w (waits slot wait p l e) = absurd (rw p at w)
+    follow-rule w (begins slot wait p l e) = absurd (rw p at w)
+    follow-rule w (puts slot done p l k e) = absurd (rw p at w)
+    follow-rule w (pads slot done p l k z e) = absurd (rw p at w)
+    follow-rule w (finishes slot done p l n) = absurd (rw p at w)
+    follow-rule w (moves sector done fifo′ p l e) = goes (Reading sector (done + 1)) fifo′ (rw p at w) e
+    follow-rule w (moves-last sector done fifo′ p l e) = goes (Draining sector 0) fifo′ (rw p at w) e
+    follow-rule w (drains sector looks p l e) = goes (Draining sector (looks + 1)) fifo (rw p at w) e
+    follow-rule w (data-error sector looks verdict p k x y e) = ends verdict (inl (x, y refl)) e
+    follow-rule w (other-kind sector looks verdict p k e) =
+        let u : sector .broken ≡ true = rw p at w in
+        absurd (true≢false (sym u ∙ k))
+    follow-rule w (drained sector looks p k n) =
+        let u : sector .broken ≡ true = rw p at w in
+        absurd (true≢false (sym u ∙ k))
