@@ -1,4 +1,4 @@
--- A write command that is cut in mid-sector, by computation.
+-- Write commands that are cut (specs/CutExamples): the histories by computation, the premises by tests that compute.
 -- Assumes nothing.
 use Prim.Native.Nat.{ℕ, zero, suc}
 use mathlib.Core.Bool.{Bool, true, false, _&&_}

@@ -124,12 +124,13 @@ module _ (g : Geometry) (cylinder drive : ℕ) (transfer : Transfer) (aim : Aim)
   abbrev pub InHand : Aim → ℕ → Type 0
   InHand now slot = Stands g old cylinder now (offsetOf g cylinder (now .side) slot)
 
+  -- a sector begun, with so many bytes in
   pub record Half (begun : Begun) (now : Aim) (slot done : ℕ) : Type 0 where
     pub bytes : List ℕ
     pub some : begun ≡ some-of (offsetOf g cylinder (now .side) slot) bytes
     pub size : length bytes ≡ done
 
-  -- where it stands; which sector is begun
+  -- what a stage says of the slot and of the sector begun; a write neither reads nor drains
   abbrev pub Link : Aim → Begun → Stage → Type 0
   Link now begun (Searching look) = Has g cylinder (now .side) (look .slot) × (begun ≡ no-one)
   Link now begun (Turning slot) = (cylinder < g .cylinders) × (slot < g .slots) × (begun ≡ no-one)
@@ -138,6 +139,8 @@ module _ (g : Geometry) (cylinder drive : ℕ) (transfer : Transfer) (aim : Aim)
   Link now begun (Awaiting slot wait) = InHand now slot × (begun ≡ no-one)
   Link now begun (Storing slot done) = InHand now slot × Half begun now slot done
 
+  -- a write at work: it goes by its order, its sectors are apart, its stage says which one is begun, and the FIFO holds
+  -- what of the host's bytes is not stored yet
   pub record Busy (efifo : Bool) (site : Site) (task : Task) (stage : Stage) (fifo : Fifo) (img : List ℕ) (h : History)
       : Type 0 where
     pub disk : site .disk ≡ g
@@ -194,6 +197,7 @@ module _ (g : Geometry) (cylinder drive : ℕ) (transfer : Transfer) (aim : Aim)
         let z : _≡_ {A = ℕ} 0 1 = cc in
         absurd (omega arith)
 
+    -- the mark's place, by the geometry
     mark-is : {site : Site} {task : Task} {stage : Stage} {fifo : Fifo} {img : List ℕ} {h : History} (slot : ℕ)
         → Busy efifo site task stage fifo img h
         → markPlace site cylinder slot ≡ offsetOf g cylinder (aimNow h .side) slot
@@ -255,8 +259,7 @@ module _ (g : Geometry) (cylinder drive : ℕ) (transfer : Transfer) (aim : Aim)
       busy-begins slot hand none =
           let p = mark-is slot b in
           let v : writtenMark true task ≡ byteOf (Data (transfer .deleted) true) = rw (b .told-to) in
-          let left = left-begins g cylinder transfer aim old fits hr img h (b .sofar) none (b .all) (here slot)
-          hand in
+          let left = left-begins g cylinder transfer aim old fits hr img h (b .sofar) none (b .all) (here slot) hand in
           let note = noted-began (here slot) (byteOf (Data (transfer .deleted) true)) (here slot) h refl none in
           let s : Stream (h .host) (held fifo) (length (h .finished) * sizeOf (g .n) + 0) (fifo .tc) =
           rw none at (b .stream) in
@@ -376,7 +379,7 @@ module _ (g : Geometry) (cylinder drive : ℕ) (transfer : Transfer) (aim : Aim)
             sofar = k;
           })
 
-      -- a tick of it
+      -- a tick of it, by its rule
       pub busy-rule : (o : Step) → FitsFifo efifo fifo → o ≡ stageOf stage site task cylinder img fifo efifo fifothr
           → Rule cylinder img efifo fifothr site task fifo stage o → OnStep efifo o img h
       unfolding stageOf hasTrack drawnOf

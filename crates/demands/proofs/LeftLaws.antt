@@ -190,8 +190,8 @@ module _ (g : Geometry) (cylinder : ℕ) (transfer : Transfer) (aim : Aim) (old 
     ran-out = λ l. absurd (omega arith);
     others = λ i a b. refl;
     ids = λ c s k h. refl;
-    marked = λ c s k h t. t;
     size = refl;
+    marked = λ c s k h t. t;
   }
 
   module _ (img : List ℕ) (h : History) (left : Left img h) where
@@ -207,8 +207,8 @@ module _ (g : Geometry) (cylinder : ℕ) (transfer : Transfer) (aim : Aim) (old 
           ran-out = λ m. absurd (omega (arith, length-append (h .host) (byte ∷ [])));
           others = left .others;
           ids = left .ids;
-          marked = left .marked;
           size = left .size;
+          marked = left .marked;
         }
       where
         go : (b : Begun) → BegunHalf g cylinder transfer aim old img (h .host) now b
@@ -263,8 +263,8 @@ module _ (g : Geometry) (cylinder : ℕ) (transfer : Transfer) (aim : Aim) (old 
             ids = λ c s k hh.
                 ids-stay g cylinder old fits img broken (No now) at at st own (λ j z l e. omega arith) c s k hh
                 ∙ left .ids c s k hh;
-            marked = marked-mark g cylinder old fits img at broken (st .marked) (left .marked);
             size = length-set img at broken ∙ left .size;
+            marked = marked-mark g cylinder old fits img at broken (st .marked) (left .marked);
           })
 
     module _ (at : ℕ) (bytes : List ℕ) (some : h .begun ≡ some-of at bytes) (all : AllBehind transfer aim now) where
@@ -303,8 +303,8 @@ module _ (g : Geometry) (cylinder : ℕ) (transfer : Transfer) (aim : Aim) (old 
             ids = λ c s k hh.
                 ids-stay g cylinder old fits img v (No now) at p st own (λ j z w t. omega arith) c s k hh
                 ∙ left .ids c s k hh;
-            marked = marked-byte g cylinder old fits img v (No now) at p st own (omega arith) (left .marked);
             size = length-set img p v ∙ left .size;
+            marked = marked-byte g cylinder old fits img v (No now) at p st own (omega arith) (left .marked);
           })
         where
           new : (i : ℕ) → (length bytes ≤ i) ⊎ (i < length bytes) → i < length bytes + 1
@@ -344,6 +344,6 @@ module _ (g : Geometry) (cylinder : ℕ) (transfer : Transfer) (aim : Aim) (old 
             ids = λ c s k hh.
                 ids-stay g cylinder old fits img good (No now) at at st own (λ j y w t. omega arith) c s k hh
                 ∙ left .ids c s k hh;
-            marked = marked-mark g cylinder old fits img at good (st .marked) (left .marked);
             size = length-set img at good ∙ left .size;
+            marked = marked-mark g cylinder old fits img at good (st .marked) (left .marked);
           })

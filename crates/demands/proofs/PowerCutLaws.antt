@@ -68,6 +68,7 @@ told-tc efifo tc hears told byte f a o e =
     let e″ : (tc && hears) ≡ true = rw (o .before-tc a) at e′ in
     rw (both tc hears e″ .0, or-true told)
 
+-- only a tick changes an image
 image-same : (drive : ℕ) (img : List ℕ) (call : Call) (c : Controller) → NoTick call → imageBy drive img call c ≡ img
 image-same drive img (powers head0 head1) c n = refl
 image-same drive img (reads offset) c n = refl
@@ -160,8 +161,7 @@ module _ (g : Geometry) (cylinder : ℕ) (order : Order) (transfer : Transfer) (
 
   -- A later tick.
   later-step : (efifo : Bool) (fifothr : ℕ) (site : Site) (task : Task) (stage : Stage) (fifo : Fifo) (img : List ℕ)
-      (h : History)
-      (seen : Disk) → FitsFifo efifo fifo → Works-on efifo site task stage fifo img h
+      (h : History) (seen : Disk) → FitsFifo efifo fifo → Works-on efifo site task stage fifo img h
       → Gives efifo (goOnOf (Moving site task stage) seen cylinder img fifo efifo fifothr) img h
   unfolding goOnOf workOf lostOf moveFails moveEnd endOf
   later-step efifo fifothr site task stage fifo img h seen f b =
@@ -171,7 +171,7 @@ module _ (g : Geometry) (cylinder : ℕ) (order : Order) (transfer : Transfer) (
       (transfer-rule cylinder img efifo fifothr site task fifo stage))
       (λ t. b .sofar)
 
-  -- The record.
+  -- The record: the command is over, has not had its first tick, or is at it.
   data Run (c : Controller) (img : List ℕ) (h : History) : Type 0 where
     is-over : atWork (c .phase) ≡ false → Done img h → Run c img h
     to-start : c .phase ≡ Starting order → driveAt drive (c .drives) .head ≡ cylinder → img ≡ old → h ≡ fresh
@@ -201,10 +201,11 @@ module _ (g : Geometry) (cylinder : ℕ) (order : Order) (transfer : Transfer) (
       → Run (after (ticks a b) c) (imageBy drive img (ticks a b) c) (historyBy (ticks a b) c h)
   unfolding answerTo tickOf answerOf imageAfter historyBy decidedOf
   tick-run a b c img h d o e q u k =
-      subst (λ (x : Decision). Run (x .controller) (storedAs (x .drive) drive (x .effect) img) (noted
-      (x .effect) h)) (sym e)
+      subst
+      (λ (x : Decision). Run (x .controller) (storedAs (x .drive) drive (x .effect) img) (noted (x .effect) h)) (sym e)
       (rw (eq-eqb d drive q) (settled-run (o .then) (o .fifo) c _ _ u k))
 
+  -- the head's cylinder, as a tick asks for it
   head-is : (c : Controller) → driveAt drive (c .drives) .head ≡ cylinder
       → driveAt (drive % 4) (c .drives) .head ≡ cylinder
   head-is c u = rw (mod-eq-of-lt {n = drive} {m = 4} hd) u
@@ -218,8 +219,8 @@ module _ (g : Geometry) (cylinder : ℕ) (order : Order) (transfer : Transfer) (
   run-tick a b c img h q w e (is-over n k) = absurd (false≢true (sym n ∙ w))
   run-tick a b c img h q w e (to-start p u i f) =
       tick-run a b c img h drive _ (tick-starts a b c order q p) refl u
-      (rw (e, i, f, head-is c u, empty-start (c .phase) _ (c .fifo) p (q .good .phase)) (first-step
-      (c .registers .efifo) (c .registers .dor)))
+      (rw (e, i, f, head-is c u, empty-start (c .phase) _ (c .fifo) p (q .good .phase))
+      (first-step (c .registers .efifo) (c .registers .dor)))
   run-tick a b c img h q w e (at-it site task stage p u k) =
       let lent : pickOf (site .drive) a b ≡ img = ap (λ (d : ℕ). pickOf d a b) (k .drive-is) ∙ e in
       let head : driveAt (site .drive % 4) (c .drives) .head ≡ cylinder =
@@ -230,8 +231,7 @@ module _ (g : Geometry) (cylinder : ℕ) (order : Order) (transfer : Transfer) (
 
   -- A byte from the host.
   busy-given : (efifo : Bool) (site : Site) (task : Task) (stage : Stage) (fifo : Fifo) (img : List ℕ) (h : History)
-      (byte : ℕ)
-      (tc hears : Bool) → FitsFifo efifo fifo → fifo .asks ≡ true → Works-on efifo site task stage fifo img h
+      (byte : ℕ) (tc hears : Bool) → FitsFifo efifo fifo → fifo .asks ≡ true → Works-on efifo site task stage fifo img h
       → Works-on efifo site task stage (givenOf efifo (tc && hears) byte fifo) img (handed byte tc h)
   busy-given efifo site task stage fifo img h byte tc hears f a b =
       let within = stream-within (h .host) _ (storedCount g h) (fifo .tc) (b .request .before-tc a) (b .stream) in
@@ -251,8 +251,8 @@ module _ (g : Geometry) (cylinder : ℕ) (order : Order) (transfer : Transfer) (
 
   -- it takes no byte to the host
   not-to-host : (efifo : Bool) (site : Site) (task : Task) (stage : Stage) (fifo : Fifo) (img : List ℕ)
-      (h : History) (p : Phase)
-      {A : Type 0} → Works-on efifo site task stage fifo img h → p ≡ Working (Moving site task stage)
+      (h : History) (p : Phase) {A : Type 0} → Works-on efifo site task stage fifo img h
+      → p ≡ Working (Moving site task stage)
       → phaseToHost p ≡ true → A
   not-to-host efifo site task stage fifo img h p b e t =
       let pass : task .transfer .pass ≡ Write = ap (λ (x : Transfer). x .pass) (b .told-to) ∙ wr in
@@ -261,8 +261,7 @@ module _ (g : Geometry) (cylinder : ℕ) (order : Order) (transfer : Transfer) (
 
   -- A call that is no tick.
   kept-run : (call : Call) (c e : Controller) (img : List ℕ) (h : History) → Quiet c → atWork (c .phase) ≡ true
-      → Keeps c e
-      → FifoRule call c e → Run c img h → Run e img (historyBy call c h)
+      → Keeps c e → FifoRule call c e → Run c img h → Run e img (historyBy call c h)
   kept-run call c e img h q w k r (is-over n d) = absurd (false≢true (sym n ∙ w))
   kept-run call c e img h q w k (same f n) (to-start p u i z) =
       to-start (k .phase ∙ p) (k .heads drive hd ∙ u) i (n h ∙ z)
@@ -279,8 +278,7 @@ module _ (g : Geometry) (cylinder : ℕ) (order : Order) (transfer : Transfer) (
       (q .good .fifo) a b))
 
   call-run : (call : Call) (c : Controller) (img : List ℕ) (h : History) → Quiet c → atWork (c .phase) ≡ true
-      → NoTick call
-      → Run c img h → Run (after call c) (imageBy drive img call c) (historyBy call c h)
+      → NoTick call → Run c img h → Run (after call c) (imageBy drive img call c) (historyBy call c h)
   call-run call c img h q w n r = rw (image-same drive img call c n) (go (call-rule call c q w n))
     where
       go : CallRule call c (after call c) → Run (after call c) img (historyBy call c h)
@@ -298,8 +296,7 @@ module _ (g : Geometry) (cylinder : ℕ) (order : Order) (transfer : Transfer) (
   run-after (notes drive′) c img h q w e r = call-run (notes drive′) c img h q w tt r
 
   run-all : (calls : List Call) (c : Controller) (img : List ℕ) (h : History) → Quiet c → Its calls c
-      → Alone drive img calls c
-      → Run c img h → Done (imageLeft drive img calls c) (historyOf calls c h)
+      → Alone drive img calls c → Run c img h → Done (imageLeft drive img calls c) (historyOf calls c h)
   unfolding Its Alone imageLeft historyOf
   run-all [] c img h q i a r = run-done r
   run-all (call ∷ calls) c img h q i a r =
@@ -308,7 +305,7 @@ module _ (g : Geometry) (cylinder : ℕ) (order : Order) (transfer : Transfer) (
       (i .1) alone
       (run-after call c img h q (i .0) handed-it r)
 
--- Demand 3
+-- Demand 3: finished sectors, the one begun, every other byte, after any of a write command's calls
 pub power-cut : PowerCut
 power-cut c order transfer id w old g disk calls its alone =
     let q = quiet-real c (w .real) in

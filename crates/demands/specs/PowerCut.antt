@@ -53,8 +53,8 @@ abbrev pub aimNo : Transfer → Aim → ℕ → Aim
 aimNo transfer aim zero = aim
 aimNo transfer aim (suc n) = onward transfer (aimNo transfer aim n)
 
--- where a sector of the command stands: in a slot of the track under the head, on the side in use, that it matches (01
--- Search: the mark isn't 0, C H R N equal the command's and N is the header's)
+-- where a sector of the command stands: in a slot of the track under the head, on the side in use, that matches
+-- (01 Search: the mark isn't 0, C H R N equal the command's and N is the header's)
 pub record Stands (g : Geometry) (img : List ℕ) (cylinder : ℕ) (aim : Aim) (at : ℕ) : Type 0 where
   pub slot : ℕ
   pub has : Has g cylinder (aim .side) slot
@@ -120,9 +120,9 @@ pub record LeftBy (g : Geometry) (cylinder : ℕ) (transfer : Transfer) (aim : A
   pub others : (i : ℕ) → SparesAll (h .finished) i → SparesBegun (h .begun) i → getD img i 0 ≡ getD old i 0
   -- so are the addresses of all slots, and the length
   pub ids : (c s k : ℕ) → Has g c s k → idAt img (offsetOf g c s k) ≡ idAt old (offsetOf g c s k)
-  -- and a slot with a mark above 0 had one before
-  pub marked : (c s k : ℕ) → Has g c s k → 0 < markIn g img c s k → 0 < markIn g old c s k
   pub size : length img ≡ length old
+  -- a slot with a mark above 0 had one before
+  pub marked : (c s k : ℕ) → Has g c s k → 0 < markIn g img c s k → 0 < markIn g old c s k
 
 -- the track's cylinder is the head's
 abbrev pub headOf : Order → Controller → ℕ
