@@ -1,0 +1,11 @@
+pub mod Answers
+pub mod CheckedExamples
+pub mod CommandLaws
+pub mod EasyLaws
+pub mod MountedLaws
+pub mod RefusalLaws
+pub mod RegisterLaws
+pub mod RegisterRuns
+pub mod ResetTableLaws
+pub mod ResultLaws
+pub mod RowRuns
