@@ -2,21 +2,21 @@
 -- Assumes nothing.
 use Prim.Native.Nat.{ℕ, _+_, _%_, _<_, _≤_}
 use native.Mathlib.Omega.{arith}
-use mathlib.Core.Bool.{Bool, true, false, false≢true}
+use mathlib.Core.Bool.{Bool, true, false, false≢true, _&&_}
 use mathlib.Core.List.{List}
 use mathlib.Core.Logic.{_⊎_, inl, inr}
 use mathlib.Core.Path.{_≡_, refl, _∙_, ap}
 use lib.Dec.{eqb}
 use lib.ListN.{getD}
 use lib.Seq.{getD-set-other}
-use borrow.Author.Tests.{ne-eqb, lt-leb}
+use borrow.Author.Tests.{eq-eqb, ne-eqb, lt-leb}
 use Rattle.image.proofs.TestLaws.{by-test, le-or-lt}
 use Rattle.chip.specs.declared.fifo.Fifo.{Fifo}
 use Rattle.chip.specs.Next.{nextOf, advancedOf}
 use Rattle.chip.proofs.NextLaws.{advanced-below, advanced-r-at-eot}
 use Rattle.sectors.specs.declared.work.Site.{Site}
 use Rattle.sectors.specs.declared.work.Stage.{Stage}
-use Rattle.sectors.specs.declared.work.Stage.the-variants.{Searching, Storing}
+use Rattle.sectors.specs.declared.work.Stage.the-variants.{Searching, Turning, Storing}
 use Rattle.sectors.specs.declared.work.Step.{Step}
 use Rattle.sectors.specs.declared.work.Task.{Task}
 use Rattle.sectors.specs.declared.work.Then.{Then}
@@ -24,7 +24,7 @@ use Rattle.sectors.specs.declared.work.Then.the-variants.{Ends, Works}
 use Rattle.sectors.specs.declared.work.Verdict.{Verdict}
 use Rattle.sectors.specs.declared.work.Work.{Work}
 use Rattle.sectors.specs.declared.work.Work.the-variants.{Moving}
-use Rattle.sectors.specs.Follow.{freshAt, withId, followedOf, followOf}
+use Rattle.sectors.specs.Follow.{freshAt, withId, onSide, followedOf, followOf}
 use Rattle.sectors.specs.Result.{endOf, moveEnd, moveFails, movesOf}
 use Rattle.engine.specs.Step.{stageOf, workOf}
 use Rattle.sectors.specs.Track.{markPlace, dataPlace, nextSlot}
@@ -69,6 +69,14 @@ module _ (c : Controller) (site : Site) (task : Task) (a b : List ℕ) (stage : 
   unfolding followOf nextOf followedOf
   goes-on slot effect work n = rw (ne-eqb (work .id .r) (work .transfer .eot) n)
 
+  turns-over : (slot : ℕ) (effect : Effect) (work : Task) → work .id .r ≡ work .transfer .eot
+      → (work .transfer .mt && eqb (site .side) 0) ≡ true
+      → followOf slot false site work (c .fifo) effect
+      ≡ movesOf (Turning (nextSlot slot (site .disk .slots))) (onSide 1 site)
+      (withId (advancedOf (work .id) (work .transfer .eot) (work .transfer .mt) (site .side)) work) (c .fifo) effect
+  unfolding followOf nextOf followedOf
+  turns-over slot effect work e m = rw (eq-eqb (work .id .r) (work .transfer .eot) e, m)
+
   settled-works : (work : Work) (fifo : Fifo) → settledOf (Works work) fifo c .phase ≡ Working work
   unfolding settledOf withFifo withPhase
   settled-works work fifo = refl
@@ -83,6 +91,18 @@ module _ (c : Controller) (site : Site) (task : Task) (a b : List ℕ) (stage : 
       ∙ settled-works _ _)
       (ap (λ (x : Id). x .r) (advanced-below (work .id) (work .transfer .eot) (work .transfer .mt) (site .side) below)
       ∙ rw i)
+
+  seeks-turned : During c (Moving site task stage) a b → task .id .r ≡ task .transfer .eot
+      → task .transfer .mt ≡ true → site .side ≡ 0 → Follows c site task a b stage false other
+      → Seeks (after (ticks a b) c) 1
+  seeks-turned d r m z (follows slot effect work i t o e) =
+      let at-eot : work .id .r ≡ work .transfer .eot = rw (i, t) r in
+      let turns : (work .transfer .mt && eqb (site .side) 0) ≡ true = rw (t, m, eq-eqb (site .side) 0 z) in
+      seeks (onSide 1 site) _ _
+      (ap (λ (x : Controller). x .phase) (followed false d slot effect work e)
+      ∙ ap (λ (s : Step). settledOf (s .then) (s .fifo) c .phase) (turns-over slot effect work at-eot turns)
+      ∙ settled-works _ _)
+      (advanced-r-at-eot (work .id) (work .transfer .eot) (work .transfer .mt) (site .side) at-eot)
 
   settled-ends : (v : Verdict) (fifo : Fifo) → resultByte 0 (settledOf (Ends v) fifo c) ≡ v .st0
   unfolding settledOf withFifo answeredOf
@@ -116,6 +136,7 @@ module _ (c : Controller) (site : Site) (task : Task) (a b : List ℕ) (stage : 
     r-at-eot = λ d n h.
         r-byte d n ∙ advanced-r-at-eot (task .id) (task .transfer .eot) (task .transfer .mt) (site .side) h;
     r-goes-on = λ d n h. seeks-on d h (at-next c site task a b stage false other n);
+    r-turns = λ d n h m z. seeks-turned d h m z (at-next c site task a b stage false other n);
     no-tc = λ d n p. no-tc d (at-next c site task a b stage false other n) p;
   }
 

@@ -36,9 +36,11 @@ pub record EasyNext (c : Controller) (site : Site) (task : Task) (a b : List ℕ
       → (task .id .r ≡ task .transfer .eot → ⊥) → resultByte 5 (after (ticks a b) c) ≡ (task .id .r + 1) % 256
   pub r-at-eot : During c (Moving site task stage) a b → AtNext c site task a b stage true other
       → task .id .r ≡ task .transfer .eot → resultByte 5 (after (ticks a b) c) ≡ 1
-  -- and so it is of the sector sought next
+  -- and so it is of the sector sought next, which is sector 1 after an MT turn
   pub r-goes-on : During c (Moving site task stage) a b → AtNext c site task a b stage false other
       → (task .id .r ≡ task .transfer .eot → ⊥) → Seeks (after (ticks a b) c) ((task .id .r + 1) % 256)
+  pub r-turns : During c (Moving site task stage) a b → AtNext c site task a b stage false other
+      → task .id .r ≡ task .transfer .eot → task .transfer .mt ≡ true → site .side ≡ 0 → Seeks (after (ticks a b) c) 1
   -- 2. the last byte without TC counted as a normal end: if it ends there, IC is not 00
   pub no-tc : During c (Moving site task stage) a b → AtNext c site task a b stage false other
       → after (ticks a b) c .phase ≡ Answering true → 0x40 ≤ resultByte 0 (after (ticks a b) c)
