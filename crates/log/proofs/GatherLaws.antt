@@ -15,14 +15,14 @@ use Rattle.log.specs.declared.line.Line.the-variants.{Malformed}
 use Rattle.log.specs.Gather.{noText, addedTo, addedAll, lineWithin, gatheredLine}
 use Rattle.log.specs.Line.{lineOf}
 
-abbrev bytesOf : Gathered → List ℕ
+abbrev pub bytesOf : Gathered → List ℕ
 bytesOf g = take (g .length) (g .text)
 
 abbrev withByte : ℕ → Gathered → Gathered
 withByte b g = record { text = set (g .text) (g .length) b; length = g .length + 1 }
 
 -- what adding bytes to g left, where they fit
-record Holds (s : List ℕ) (g h : Gathered) : Type 0 where
+pub record Holds (s : List ℕ) (g h : Gathered) : Type 0 where
   pub count : h .length ≡ g .length + length s
   pub bytes : bytesOf h ≡ bytesOf g ++ s
 
@@ -30,7 +30,7 @@ added : (b : ℕ) (g : Gathered) → g .length < 256 → addedTo b g ≡ withByt
 unfolding addedTo
 added b g h = simp (lt-ltb (g .length) 256 h)
 
-held : (s : List ℕ) (g : Gathered) → length (g .text) ≡ 256 → g .length + length s ≤ 256 → Holds s g (addedAll s g)
+pub held : (s : List ℕ) (g : Gathered) → length (g .text) ≡ 256 → g .length + length s ≤ 256 → Holds s g (addedAll s g)
 unfolding addedAll
 held [] g e h = record { count = omega arith; bytes = sym (append-nil (bytesOf g)) }
 held (b ∷ s) g e h =
@@ -44,7 +44,7 @@ held (b ∷ s) g e h =
           (append-assoc (bytesOf g) (b ∷ []) s);
     })
 
-full : (s : List ℕ) (g : Gathered) → 256 ≤ g .length → addedAll s g ≡ g
+pub full : (s : List ℕ) (g : Gathered) → 256 ≤ g .length → addedAll s g ≡ g
 unfolding addedAll addedTo
 full [] g h = refl
 full (b ∷ s) g h = simp (le-ltb (g .length) 256 h) (full s g h)

@@ -97,7 +97,7 @@ fn call_in(t: &[u8]) -> Line
 }
 
 // A line's length without the CR that may end it.
-fn text_length(s: &[u8]) -> usize
+pub fn text_length(s: &[u8]) -> usize
     ensures { λ r. ⌜ r ≡ textLength (now (s .entry)) ⌝ }
     ensures { λ r. ⌜ r ≤ length (now (s .entry)) ⌝ }
 {

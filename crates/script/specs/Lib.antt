@@ -1,0 +1,4 @@
+pub mod Change
+pub mod Decimal
+pub mod Line
+pub mod Tally
