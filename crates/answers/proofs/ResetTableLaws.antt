@@ -3,22 +3,28 @@
 use Prim.Native.Nat.{ℕ, _/_, _%_, _<_}
 use native.Mathlib.Omega.{arith}
 use mathlib.Core.Bool.{Bool, true, false, and-false}
+use mathlib.Core.List.{List}
 use mathlib.Core.Path.{_≡_, refl, _∙_, ap}
+use lib.Dec.{eqb}
 use borrow.Author.Tests.{eq-eqb, ne-eqb}
 use Rattle.image.proofs.TestLaws.{by-test}
+use Rattle.image.specs.declared.lent.Effect.the-variants.{Nothing}
+use Rattle.image.specs.Lent.{storedAs}
 use Rattle.drive.specs.declared.Drive.{Drive}
 use Rattle.drive.specs.Drive.{reportedOf}
 use Rattle.fdc.specs.declared.record.Bytes.{Bytes}
 use Rattle.fdc.specs.declared.record.Controller.{Controller}
 use Rattle.fdc.specs.declared.record.Registers.{Registers}
+use Rattle.fdc.specs.declared.ticks.Decision.{Decision}
 use Rattle.fdc.specs.Answer.{answerOf}
 use Rattle.fdc.specs.Calls.{portOf, writeReg, writePort}
 use Rattle.fdc.specs.Record.{driveAt, validOf, withRegisters, withDrives}
 use Rattle.fdc.specs.Reset.{resetOf, releasedBy, releasedOf, withDor, withRate, wroteDor, wroteDsr}
-use Rattle.fdc.specs.Runs.{writes, answerTo, after}
+use Rattle.fdc.specs.Runs.{writes, ticks, answerTo, after}
+use Rattle.fdc.specs.Ticks.{imageAfter, stillOf, decideOf, ruledOf, tickOf}
 use Rattle.fdc.proofs.ResetLaws.{reset-drive, release-drive}
 use Rattle.answers.specs.Registers.{Undamaged, Held, Free}
-use Rattle.answers.specs.Resets.{Reset, ResetTable}
+use Rattle.answers.specs.Resets.{Reset, ResetTable, HeldTick}
 use Rattle.answers.proofs.RegisterLaws.{undamaged-valid, after-dor}
 
 -- a drive that differs at most in its report
@@ -180,3 +186,18 @@ module _ (c : Controller) (byte : ℕ) where
         ap (λ (x : Controller). x .drives) (dor-releases u held e) ∙ ap (λ (x : Controller). x .drives) (polled c p);
     dsr-held = dsr-nothing;
   }
+
+held-still : (a b : List ℕ) (c : Controller) → Held c → ruledOf a b c ≡ stillOf c
+unfolding ruledOf decideOf
+held-still a b c h =
+    by-test (validOf c) (λ (d : Decision). d ≡ stillOf c) _ _ (λ _. rw (eq-eqb _ _ h)) (λ _. refl)
+
+pub held-tick : (c : Controller) (a b : List ℕ) → HeldTick c a b
+unfolding answerTo tickOf answerOf imageAfter stillOf
+held-tick c a b = record {
+  stays = λ h. ap (λ (d : Decision). d .controller) (held-still a b c h);
+  images = λ h k img. ap (λ (d : Decision). storedAs (d .drive) k (d .effect) img) (held-still a b c h) ∙ still k img;
+}
+  where
+    still : (k : ℕ) (img : List ℕ) → storedAs 0 k Nothing img ≡ img
+    still k img = by-test (eqb 0 k) (λ (l : List ℕ). l ≡ img) _ _ (λ _. refl) (λ _. refl)

@@ -3,6 +3,7 @@
 -- Assumes nothing.
 use Prim.Native.Nat.{ℕ, _+_, _/_, _%_, _<_}
 use mathlib.Core.Bool.{true, false}
+use mathlib.Core.List.{List}
 use mathlib.Core.Path.{_≡_}
 use Rattle.chip.specs.Fifo.{emptied}
 use Rattle.drive.specs.declared.Motion.the-variants.{Still}
@@ -10,7 +11,8 @@ use Rattle.fdc.specs.declared.record.Controller.{Controller}
 use Rattle.fdc.specs.declared.record.Phase.the-variants.{Idle}
 use Rattle.fdc.specs.Record.{driveAt}
 use Rattle.fdc.specs.Reset.{withRate}
-use Rattle.fdc.specs.Runs.{writes, after}
+use Rattle.fdc.specs.Runs.{writes, ticks, after}
+use Rattle.fdc.specs.Ticks.{imageAfter}
 use Rattle.answers.specs.Registers.{Undamaged, Held, Free}
 
 -- what a record c is after a reset, by DOR or by DSR
@@ -60,3 +62,8 @@ pub record ResetTable (c : Controller) (byte : ℕ) : Type 0 where
       → after (writes 2 byte) c .drives ≡ c .drives
   -- a DSR reset while DOR holds reset adds nothing: the rate alone is stored
   pub dsr-held : Undamaged c → Held c → after (writes 4 byte) c ≡ withRate byte c
+
+-- 01 Calls: a tick held in reset does nothing, to the record and to both images, whatever record it is handed
+pub record HeldTick (c : Controller) (a b : List ℕ) : Type 0 where
+  pub stays : Held c → after (ticks a b) c ≡ c
+  pub images : Held c → (k : ℕ) (img : List ℕ) → imageAfter k a b c img ≡ img
