@@ -5,7 +5,5 @@ pub mod EasyLaws
 pub mod MountedLaws
 pub mod RefusalLaws
 pub mod RegisterLaws
-pub mod RegisterRuns
 pub mod ResetTableLaws
 pub mod ResultLaws
-pub mod RowRuns

@@ -4,8 +4,6 @@ pub mod CommandResults
 pub mod EasyToGetWrong
 pub mod Mounted
 pub mod Refusals
-pub mod RegisterRuns
 pub mod Registers
 pub mod Resets
 pub mod Results
-pub mod RowRuns

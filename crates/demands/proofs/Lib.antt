@@ -3,11 +3,8 @@ pub mod BoundLaws
 pub mod CallLaws
 pub mod CallRules
 pub mod CountLaws
-pub mod CutExamples
 pub mod CutLaws
-pub mod DataErrorExamples
 pub mod DataErrorLaws
-pub mod EndsExamples
 pub mod EndsLaws
 pub mod FifoStream
 pub mod FollowLaws

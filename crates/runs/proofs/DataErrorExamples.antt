@@ -59,9 +59,9 @@ use Rattle.fdc.specs.Ticks.{
   workOf as fdc·workOf,
   tickOf as fdc·tickOf,
 }
-use Rattle.demands.specs.CutExamples.{writer, written, sectorOne, ordered, full}
+use Rattle.runs.specs.CutExamples.{writer, written, sectorOne, ordered, full}
 use Rattle.demands.specs.DataError.{ReadsIt, Spins, DataErrorOrLate}
-use Rattle.demands.specs.DataErrorExamples.{
+use Rattle.runs.specs.DataErrorExamples.{
   wrote,
   asks,
   reader,
@@ -73,13 +73,13 @@ use Rattle.demands.specs.DataErrorExamples.{
   readCalls,
   DataErrorExample,
 }
 use Rattle.demands.specs.EndsInTime.{boundOf}
 use Rattle.demands.specs.History.{some-of, History, fresh, historyOf}
 use Rattle.demands.specs.PowerCut.{Writes, headOf}
 use Rattle.demands.specs.Work.{Its, Alone, imageLeft}
 use Rattle.demands.specs.Work as command
-use Rattle.demands.proofs.CutExamples.{cut-examples}
+use Rattle.runs.proofs.CutExamples.{cut-examples}
 use Rattle.demands.proofs.DataErrorLaws.{data-error}
 use Rattle.image.specs.Disk.{headerIn, geometryIn, diskIn}
 use Rattle.image.specs.Mark.{markOf}
 use Rattle.chip.specs.Fifo.{filledOf, takenOf, openedOf, givenOf, drawnOf}

@@ -9,8 +9,8 @@ use Rattle.fdc.specs.Examples.{command}
 use Rattle.fdc.specs.Record.{driveAt}
 use Rattle.fdc.specs.Registers.{intOf, drqOf}
 use Rattle.fdc.specs.Runs.{Call, reads, writes, ticks, notes}
 use Rattle.answers.specs.Registers.{readsAs}
-use Rattle.answers.specs.RowRuns.{box, given, move, format, marks, on}
+use Rattle.runs.specs.RowRuns.{box, given, move, format, marks, on}
 
 -- what a port shows after these calls
 abbrev pub Shows : ℕ → ℕ → List Call → Type 0

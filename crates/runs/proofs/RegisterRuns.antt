@@ -33,7 +33,7 @@ use Rattle.fdc.specs.Runs.{answerTo, runCalls}
 use Rattle.fdc.specs.Ticks.{seenOf, tickAll, steppedOf, st3Of, sensedAt, stillOf, settledOf, decidedOf}
 use Rattle.fdc.specs.Ticks.{startOf as fdc·startOf, workOf as fdc·workOf, decideIn, decideOf, ruledOf}
 use Rattle.fdc.specs.Ticks.{tickOf as fdc·tickOf, imageAfter}
-use Rattle.answers.specs.RegisterRuns.{RegisterRuns}
+use Rattle.runs.specs.RegisterRuns.{RegisterRuns}
 
 pub register-runs : RegisterRuns
 unfolding headerIn geometryIn diskIn sizeOf trackLength lengthOf trackAt offsetOf sameOf markOf kindOf entryOf

@@ -45,10 +45,10 @@ use Rattle.fdc.specs.Ticks.{tickOf as fdc·tickOf, imageAfter}
 use Rattle.fdc.specs.Runs.{writes}
 use Rattle.fdc.specs.Runs.{Call, powers, reads, writes, takes, gives, ticks, notes}
 use Rattle.image.specs.declared.slot.Id.{Id}
 use Rattle.answers.specs.Results.{drained, stored, skipped}
-use Rattle.answers.specs.RowRuns.{given, box, on, reading, writing, move, format, marks, RowRuns}
+use Rattle.runs.specs.RowRuns.{given, box, on, reading, writing, move, format, marks, RowRuns}
 use Rattle.demands.specs.Work.{OfBytes, AllOfBytes, Real}
 use Rattle.answers.proofs.ResultLaws.{result-bytes}
 
 -- the numbers of a list of calls are bytes, by a test that is computed
 abbrev byteTest : Call → Bool

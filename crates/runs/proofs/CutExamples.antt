@@ -33,11 +33,11 @@ use Rattle.fdc.specs.Runs.{Call, after}
 use borrow.Author.Needs.{needs}
 use Rattle.image.specs.declared.disk.Disk.the-variants.{Present}
 use Rattle.image.specs.Examples.{disk, sample}
-use Rattle.demands.specs.CutExamples.{asked, writer, written, sectorOne, ordered, served, cutCalls, down, full, CutExample, CutExamples}
+use Rattle.runs.specs.CutExamples.{asked, writer, written, sectorOne, ordered, served, cutCalls, down, full, CutExample, CutExamples}
 use Rattle.demands.specs.History.{History, fresh, historyBy, historyOf}
 use Rattle.demands.specs.PowerCut.{Writes, LeftBy, headOf}
 use Rattle.demands.specs.Work.{atWork, Its, imageLeft, Alone}
 use Rattle.demands.proofs.PowerCutLaws.{power-cut}
 
 -- at work at each call, as a test
 unfoldable allWork : List Call → Controller → Bool

@@ -19,12 +19,12 @@ use Rattle.fdc.specs.Examples.{start, command}
 use Rattle.fdc.specs.Moves.{tickCount}
 use Rattle.fdc.specs.Runs.{Call, writes, takes, ticks, after, runCalls}
 use Rattle.fdc.specs.Ticks.{imageAfter}
-use Rattle.demands.specs.CutExamples.{writer, written, sectorOne, ordered, cutCalls, full}
+use Rattle.runs.specs.CutExamples.{writer, written, sectorOne, ordered, cutCalls, full}
 use Rattle.demands.specs.DataError.{ReadsIt, Spins, DataErrorOrLate}
 use Rattle.demands.specs.EndsInTime.{boundOf}
 use Rattle.demands.specs.History.{some-of, fresh, historyOf}
 use Rattle.demands.specs.PowerCut.{Writes}
 use Rattle.demands.specs.Work.{Its, Alone, imageLeft, Ends}
 
 -- the write's calls
 abbrev pub wrote : List Call

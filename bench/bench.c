@@ -1,0 +1,271 @@
+/* Whole images read, written and formatted by DMA, on the library and on the model, by one and the same host: seek, then
+ * each cylinder in one command (MT where there are two sides; Format by tracks), TC with the last byte; FIFO on, threshold 8.
+ * Both are compiled with the same flags. Time is the processor's, the best of a few runs; DMA cycles and port accesses are
+ * in it: a read or write has a cycle for each tick, a format has few. */
+#include <stdbool.h>
+#include <stdio.h>
+#include <stdlib.h>
+#include <string.h>
+#include <time.h>
+
+#include "beleduritz.h"
+#include "model.h"
+
+enum { INT_LINE = 1 << 16, DRQ_LINE = 1 << 17, RUNS = 3 };
+
+/* ---- what is measured: the same calls of each ---- */
+
+static uint8_t record[512];
+static struct model model;
+static struct image image;
+
+struct box {
+    uint32_t (*power_on)(void);
+    uint32_t (*read_port)(uint8_t offset);
+    uint32_t (*write_port)(uint8_t offset, uint8_t byte);
+    uint32_t (*dma_read)(bool tc);
+    uint32_t (*dma_write)(uint8_t byte, bool tc);
+    uint32_t (*tick)(void);
+    uint64_t (*ticks)(uint32_t n);
+};
+
+static uint32_t lib_power_on(void) { return bel_power_on(record, sizeof record, 0, 0); }
+static uint32_t lib_read_port(uint8_t offset) { return bel_read_port(record, sizeof record, offset); }
+static uint32_t lib_write_port(uint8_t offset, uint8_t byte) { return bel_write_port(record, sizeof record, offset, byte); }
+static uint32_t lib_dma_read(bool tc) { return bel_dma_read(record, sizeof record, tc); }
+static uint32_t lib_dma_write(uint8_t byte, bool tc) { return bel_dma_write(record, sizeof record, byte, tc); }
+static uint32_t lib_tick(void) { return bel_tick(record, sizeof record, image.bytes, image.length, NULL, 0); }
+
+static uint64_t lib_ticks(uint32_t n)
+{
+    return bel_ticks(record, sizeof record, image.bytes, image.length, NULL, 0, n);
+}
+
+static const struct image no_image;
+
+static uint32_t mod_power_on(void) { return model_power_on(&model, 0, 0); }
+static uint32_t mod_read_port(uint8_t offset) { return model_read_port(&model, offset); }
+static uint32_t mod_write_port(uint8_t offset, uint8_t byte) { return model_write_port(&model, offset, byte); }
+static uint32_t mod_dma_read(bool tc) { return model_dma_read(&model, tc); }
+static uint32_t mod_dma_write(uint8_t byte, bool tc) { return model_dma_write(&model, byte, tc); }
+static uint32_t mod_tick(void) { return model_tick(&model, image, no_image); }
+static uint64_t mod_ticks(uint32_t n) { return model_ticks(&model, image, no_image, n); }
+
+static const struct box library = { lib_power_on, lib_read_port, lib_write_port, lib_dma_read, lib_dma_write, lib_tick,
+                                    lib_ticks };
+static const struct box reference = { mod_power_on, mod_read_port, mod_write_port, mod_dma_read, mod_dma_write, mod_tick,
+                                      mod_ticks };
+
+/* ---- the image ---- */
+
+struct geometry { uint8_t cylinders, sides, slots, n; const char *name; unsigned repeat; };
+
+static void put_tag(uint8_t *at, uint8_t tag, size_t length)
+{
+    at[0] = tag;
+    at[1] = (uint8_t)(length >> 8);
+    at[2] = (uint8_t)length;
+}
+
+static void make_image(const struct geometry *g)
+{
+    size_t sector = (size_t)128 << g->n, track = 5 + g->slots * (5 + sector);
+    const uint8_t header[5] = { g->cylinders, g->sides, g->slots, g->n, 0 };
+    image.length = 8 + g->cylinders * g->sides * track + 3;
+    image.bytes = calloc(image.length, 1);
+    if (!image.bytes)
+        abort();
+    put_tag(image.bytes, 1, 5);
+    memcpy(image.bytes + 3, header, 5);
+    uint8_t *at = image.bytes + 8;
+    for (unsigned t = 0; t < (unsigned)g->cylinders * g->sides; t++) {
+        put_tag(at, 2, track - 3);
+        at[3] = (uint8_t)(t / g->sides);
+        at[4] = (uint8_t)(t % g->sides);
+        at += 5;
+        for (unsigned k = 0; k < g->slots; k++, at += 5 + sector) {
+            const uint8_t id[5] = { 1, (uint8_t)(t / g->sides), (uint8_t)(t % g->sides), (uint8_t)(k + 1), g->n };
+            memcpy(at, id, 5);
+            for (size_t i = 0; i < sector; i++)
+                at[5 + i] = (uint8_t)(t + k * 7 + i * 3);
+        }
+    }
+    put_tag(at, 3, 0);
+}
+
+/* ---- the host ---- */
+
+struct host { const struct box *box; bool singly; uint32_t word; unsigned long ticks, cycles; uint32_t sum; };
+
+static void fail(const char *what)
+{
+    fprintf(stderr, "bench: %s\n", what);
+    exit(1);
+}
+
+/* on to the next change of a line */
+static void run(struct host *h)
+{
+    uint32_t before = h->word & (INT_LINE | DRQ_LINE);
+    if (!h->singly) {
+        uint64_t made = h->box->ticks(100000);
+        h->word = (uint32_t)made;
+        h->ticks += made >> 32;
+        return;
+    }
+    do {
+        h->word = h->box->tick();
+        h->ticks++;
+    } while ((h->word & (INT_LINE | DRQ_LINE)) == before);
+}
+
+static void write_port(struct host *h, uint8_t offset, uint8_t byte)
+{
+    h->word = h->box->write_port(offset, byte);
+    if (h->word >> 8 & 0xFF)
+        fail("a write was refused");
+}
+
+static uint8_t read_fifo(struct host *h)
+{
+    h->word = h->box->read_port(5);
+    if (h->word >> 8 & 0xFF)
+        fail("a read was refused");
+    return (uint8_t)h->word;
+}
+
+static void send(struct host *h, const uint8_t *bytes, unsigned count)
+{
+    for (unsigned i = 0; i < count; i++)
+        write_port(h, 5, bytes[i]);
+}
+
+#define SEND(h, ...) send(h, (const uint8_t[]){ __VA_ARGS__ }, sizeof((const uint8_t[]){ __VA_ARGS__ }))
+
+static void sense_interrupt(struct host *h)
+{
+    SEND(h, 0x08);
+    read_fifo(h);
+    read_fifo(h);
+}
+
+static void start(struct host *h)
+{
+    h->word = h->box->power_on();
+    write_port(h, 2, 0x1C);
+    for (unsigned d = 0; d < 4; d++)
+        sense_interrupt(h);
+    SEND(h, 0x03, 0xF0, 0x02);
+    SEND(h, 0x13, 0x00, 0x07, 0x00);
+}
+
+static void seek(struct host *h, uint8_t cylinder)
+{
+    SEND(h, 0x0F, 0x00, cylinder);
+    while (!(h->word & INT_LINE))
+        run(h);
+    sense_interrupt(h);
+}
+
+enum deed { READ, WRITE, FORMATTING };
+
+/* serves DMA until the command's end; TC goes with the last byte that the host has */
+static void serve(struct host *h, size_t left, bool out, const uint8_t *bytes)
+{
+    while (!(h->word & INT_LINE)) {
+        while ((h->word & DRQ_LINE) && left > 0) {
+            left--;
+            h->cycles++;
+            uint8_t byte = bytes ? *bytes++ : (uint8_t)(left * 5);
+            h->word = out ? h->box->dma_write(byte, left == 0) : h->box->dma_read(left == 0);
+            h->sum = h->sum * 31 + (h->word & 0xFF);
+        }
+        if (!(h->word & INT_LINE))
+            run(h);
+    }
+    if ((read_fifo(h) & 0xC0) != 0)
+        fail("a command did not end normally");
+    for (unsigned i = 1; i < 7; i++)
+        read_fifo(h);
+}
+
+static void transfer(struct host *h, const struct geometry *g, uint8_t cylinder, bool out)
+{
+    uint8_t mt = g->sides == 2 ? 0x80 : 0;
+    SEND(h, (uint8_t)(mt | (out ? 0x45 : 0x46)), 0x00, cylinder, 0x00, 0x01, g->n, g->slots, 0x1B, 0xFF);
+    serve(h, (size_t)g->sides * g->slots << (7 + g->n), out, NULL);
+}
+
+static void format(struct host *h, const struct geometry *g, uint8_t cylinder)
+{
+    uint8_t ids[4 * 36];
+    for (uint8_t side = 0; side < g->sides; side++) {
+        for (uint8_t k = 0; k < g->slots; k++)
+            memcpy(ids + 4 * k, (const uint8_t[]){ cylinder, side, (uint8_t)(k + 1), g->n }, 4);
+        SEND(h, 0x4D, (uint8_t)(side << 2), g->n, g->slots, 0x1B, 0xF6);
+        serve(h, 4u * g->slots, true, ids);
+    }
+}
+
+static void whole_image(struct host *h, const struct geometry *g, enum deed deed)
+{
+    start(h);
+    for (unsigned pass = 0; pass < g->repeat; pass++)
+        for (unsigned c = 0; c < g->cylinders; c++) {
+            if (g->cylinders > 1)
+                seek(h, (uint8_t)c);
+            if (deed == FORMATTING)
+                format(h, g, (uint8_t)c);
+            else
+                transfer(h, g, (uint8_t)c, deed == WRITE);
+        }
+}
+
+/* ---- measuring ---- */
+
+static double seconds_of(struct host *h, const struct geometry *g, enum deed deed)
+{
+    double best = 1e9;
+    for (unsigned i = 0; i < RUNS; i++) {
+        h->ticks = h->cycles = h->sum = 0;
+        clock_t from = clock();
+        whole_image(h, g, deed);
+        double seconds = (double)(clock() - from) / CLOCKS_PER_SEC;
+        best = seconds < best ? seconds : best;
+    }
+    return best;
+}
+
+static void measure(const struct geometry *g, enum deed deed, bool singly)
+{
+    static const char *deeds[3] = { "read", "write", "format" };
+    struct host lib = { .box = &library, .singly = singly }, mod = { .box = &reference, .singly = singly };
+    make_image(g);
+    struct image lib_image = image;
+    double lib_seconds = seconds_of(&lib, g, deed);
+    make_image(g);
+    double mod_seconds = seconds_of(&mod, g, deed);
+    if (lib.ticks != mod.ticks || lib.sum != mod.sum || memcmp(image.bytes, lib_image.bytes, image.length) != 0)
+        fail("library and model do not agree");
+    free(image.bytes);
+    free(lib_image.bytes);
+    printf("| %-11s | %-6s | %-13s | %9lu | %9lu | %12.1f | %10.1f | %5.2f |\n", g->name, deeds[deed],
+           singly ? "one tick" : "runs of ticks", lib.ticks, lib.cycles, (double)lib.ticks / lib_seconds / 1e6,
+           (double)mod.ticks / mod_seconds / 1e6, lib_seconds / mod_seconds);
+    fflush(stdout);
+}
+
+int main(int argc, char **argv)
+{
+    unsigned times = argc > 1 ? (unsigned)strtoul(argv[1], NULL, 10) : 1;
+    const struct geometry disks[2] = { { 80, 2, 18, 2, "80/2/18/N 2", times }, { 1, 1, 1, 1, "1/1/1/N 1", 5760 * times } };
+    printf("| image       | DMA    | called by     | ticks     | cycles    | library, M/s | model, M/s | ratio |\n");
+    printf("|---|---|---|---|---|---|---|---|\n");
+    for (unsigned singly = 0; singly < 2; singly++)
+        for (unsigned d = 0; d < 2; d++)
+            for (enum deed deed = READ; deed <= FORMATTING; deed++)
+                measure(&disks[d], deed, singly);
+    printf("M/s: million ticks a second; ratio: the library's time to the model's. A record has %u bytes, the model's %u.\n",
+           (unsigned)bel_record_size(), (unsigned)sizeof(struct model));
+    return 0;
+}

@@ -1,0 +1,4 @@
+pub mod CutExamples
+pub mod DataErrorExamples
+pub mod RegisterRuns
+pub mod RowRuns

@@ -1,0 +1,76 @@
+/* The disk box for firmware: an Intel 82077AA floppy controller with two drives whose disks are image files in memory.
+ *
+ * The library keeps nothing: all of the controller's state, its record, lies in bytes that the caller lends, and each
+ * call reads it there and writes it back. No call allocates, blocks, traps or keeps a pointer. Two records are two
+ * boxes; one record is used by one thread at a time. A record may be copied and kept, by the same version only.
+ *
+ *     uint8_t record[BEL_RECORD_MAX];
+ *     bel_power_on(record, sizeof record, 0, 0);
+ *     bel_write_port(record, sizeof record, 2, 0x0C);
+ *
+ * Link with libcapi.a. The slices that one call is lent must not overlap; a length of 0 goes with any pointer that is
+ * not null, also for an image that is not there.
+ */
+#ifndef BELEDURITZ_H
+#define BELEDURITZ_H
+
+#include <stddef.h>
+#include <stdint.h>
+
+#ifdef __cplusplus
+extern "C" {
+#endif
+
+/* No record is larger. bel_record_size() says how many bytes are used; more may be lent, and those behind the record
+ * stay as they are. */
+#define BEL_RECORD_MAX 512
+
+/* What a call returns: the byte read in bits 0 to 7, the refusal's number in bits 8 to 15 (0: not refused), INT in bit
+ * 16, DRQ in bit 17. The lines are those after the call. */
+#define BEL_VALUE(word) ((uint8_t)((word)&0xFFu))
+#define BEL_REFUSAL(word) ((uint8_t)(((word) >> 8) & 0xFFu))
+#define BEL_INT(word) ((int)(((word) >> 16) & 1u))
+#define BEL_DRQ(word) ((int)(((word) >> 17) & 1u))
+
+/* The refusals. A refused call has value 0 and leaves record and images as they were; but power-on, refused with 5,
+ * writes a fresh record with both heads at 0. */
+#define BEL_REFUSED_PORT 1   /* no such port: offset 0, 1, 6 or above 7 */
+#define BEL_REFUSED_TURN 2   /* FIFO while RQM is 0 or DIO has the other direction */
+#define BEL_REFUSED_LINE 3   /* DMA cycle while DRQ is off or of the other direction */
+#define BEL_REFUSED_RECORD 4 /* too few bytes, bytes that are no record (lines 0), or a record no call can leave */
+#define BEL_REFUSED_HEAD 5   /* power-on with a head above 81 */
+#define BEL_REFUSED_DRIVE 6  /* disk-change note for a drive above 1 */
+
+/* The bytes of a record. */
+uint32_t bel_record_size(void);
+
+/* Power-on, with the heads of drives 0 and 1 where they stand (0 to 81). What stood in the bytes before is not read. */
+uint32_t bel_power_on(uint8_t *record, size_t len, uint8_t head0, uint8_t head1);
+
+/* Ports by offset: 2 DOR, 3 TDR, 4 MSR and DSR, 5 FIFO, 7 DIR and CCR. */
+uint32_t bel_read_port(uint8_t *record, size_t len, uint8_t offset);
+uint32_t bel_write_port(uint8_t *record, size_t len, uint8_t offset, uint8_t byte);
+
+/* A DMA cycle to the host and from it, while DRQ is on. tc: 0, or not 0 with the last byte. */
+uint32_t bel_dma_read(uint8_t *record, size_t len, uint8_t tc);
+uint32_t bel_dma_write(uint8_t *record, size_t len, uint8_t byte, uint8_t tc);
+
+/* One byte time. The images of drives 0 and 1 are lent; at most one byte of one of them changes. */
+uint32_t bel_tick(uint8_t *record, size_t len, uint8_t *image0, size_t len0, uint8_t *image1, size_t len1);
+
+/* A disk was changed in drive 0 or 1. */
+uint32_t bel_note_change(uint8_t *record, size_t len, uint8_t drive);
+
+/* Up to n ticks, stopping after the first that changes INT or DRQ, so that a loop pays for the record's bytes once and
+ * not at every tick. Low half: the last tick's word; with n 0 value 0 and the record's lines. High half: the ticks
+ * made, 0 where the record is refused. */
+uint64_t bel_ticks(uint8_t *record, size_t len, uint8_t *image0, size_t len0, uint8_t *image1, size_t len1, uint32_t n);
+
+#define BEL_LAST(word) ((uint32_t)((word)&0xFFFFFFFFu))
+#define BEL_MADE(word) ((uint32_t)((word) >> 32))
+
+#ifdef __cplusplus
+}
+#endif
+
+#endif

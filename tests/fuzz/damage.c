@@ -1,0 +1,117 @@
+#include "damage.h"
+
+#include <stdio.h>
+#include <stdlib.h>
+#include <string.h>
+
+#include "beleduritz.h"
+#include "chance.h"
+
+static unsigned long tried, refused, short_tried;
+
+static void spoil(uint8_t *bytes, size_t size)
+{
+    switch (below(4)) {
+    case 0: /* random bytes */
+        for (size_t i = 0; i < size; i++)
+            bytes[i] = any_byte();
+        break;
+    case 1: /* one bit */
+        bytes[below((uint32_t)size)] ^= (uint8_t)(1u << below(8));
+        break;
+    case 2: /* one byte */
+        bytes[below((uint32_t)size)] = any_byte();
+        break;
+    default: /* a run of one value */
+        memset(bytes + below((uint32_t)size / 2), chance(500) ? 0xFF : any_byte(), 1 + below((uint32_t)size / 2));
+        break;
+    }
+}
+
+/* the whole of bel_ticks' word: a refusal has made no tick */
+static uint64_t any_library_call(uint8_t *record, size_t len, const struct image *i)
+{
+    switch (below(7)) {
+    case 0:
+        return bel_read_port(record, len, (uint8_t)below(9));
+    case 1:
+        return bel_write_port(record, len, (uint8_t)below(9), any_byte());
+    case 2:
+        return bel_dma_read(record, len, (uint8_t)below(2));
+    case 3:
+        return bel_dma_write(record, len, any_byte(), (uint8_t)below(2));
+    case 4:
+        return bel_note_change(record, len, (uint8_t)below(3));
+    case 5:
+        return bel_ticks(record, len, i[0].bytes, i[0].length, i[1].bytes, i[1].length, below(400));
+    default:
+        return bel_tick(record, len, i[0].bytes, i[0].length, i[1].bytes, i[1].length);
+    }
+}
+
+static bool same(struct image a, struct image b) { return a.length == 0 || memcmp(a.bytes, b.bytes, a.length) == 0; }
+
+/* a few calls in a row on one damaged record, since a call may carry the damage on */
+static const char *calls_on(struct image record, size_t len, struct image *lent)
+{
+    for (unsigned i = 0; i < 6; i++) {
+        struct image was = image_copy(record);
+        struct image before[2] = { image_copy(lent[0]), image_copy(lent[1]) };
+        uint64_t word = any_library_call(record.bytes, len, lent);
+        bool four = (word >> 8 & 0xFF) == 4;
+        bool unchanged = same(was, record) && same(before[0], lent[0]) && same(before[1], lent[1]);
+        bool guarded = image_guard_holds(record) && image_guard_holds(lent[0]) && image_guard_holds(lent[1]);
+        free(was.bytes);
+        free(before[0].bytes);
+        free(before[1].bytes);
+        tried++;
+        refused += four;
+        if (!guarded)
+            return "a call on a damaged record wrote outside what it was lent";
+        if (four && !unchanged)
+            return "refusal 4 changed the record or an image";
+        /* the lines are that record's, which nobody here can tell */
+        if (four && (word & ~(uint64_t)(3 << 16)) != 4 << 8)
+            return "refusal 4 came with a value or a tick";
+        if (len < bel_record_size() && !four)
+            return "too few bytes did not get refusal 4";
+    }
+    return NULL;
+}
+
+static const char *short_power_on(struct image record, size_t len)
+{
+    struct image was = image_copy(record);
+    uint32_t word = bel_power_on(record.bytes, len, 0, 0);
+    bool unchanged = same(was, record);
+    free(was.bytes);
+    if (len < bel_record_size() && (word != 4 << 8 || !unchanged))
+        return "power-on on too few bytes did not get refusal 4, or changed them";
+    return NULL;
+}
+
+const char *damage_try(const struct world *w, unsigned times)
+{
+    const char *wrong = NULL;
+    for (unsigned i = 0; i < times && !wrong; i++) {
+        struct image record = image_guarded((struct image){ w->record, w->record_size });
+        struct image lent[2] = { image_guarded(w->ours[0]), image_guarded(w->ours[1]) };
+        size_t len = chance(850) ? w->record_size : below((uint32_t)w->record_size);
+        short_tried += len < w->record_size;
+        if (chance(900))
+            spoil(record.bytes, record.length);
+        wrong = calls_on(record, len, lent);
+        if (!wrong && len < w->record_size)
+            wrong = short_power_on(record, len);
+        image_free_guarded(record);
+        image_free_guarded(lent[0]);
+        image_free_guarded(lent[1]);
+    }
+    return wrong;
+}
+
+void damage_print(void)
+{
+    printf("Damaged records\n%10lu  calls\n%10lu  answered by refusal 4\n%10lu  records of too few bytes\n", tried, refused,
+           short_tried);
+}

@@ -1,0 +1,134 @@
+/* The library's interface on top of the model: a stand-in that the tests are themselves tested with. The model is compiled
+ * into this file a second time, under other names, so that a wrong copy of it can stand beside the right one.
+ *
+ * A record is the model's struct and a checksum behind it; bytes with another checksum are no record. */
+#define model_power_on    shim_power_on
+#define model_read_port   shim_read_port
+#define model_write_port  shim_write_port
+#define model_dma_read    shim_dma_read
+#define model_dma_write   shim_dma_write
+#define model_tick        shim_tick
+#define model_ticks       shim_ticks
+#define model_note_change shim_note_change
+#define model_msr         shim_msr
+#define model_image_good  shim_image_good
+#define model_track_size  shim_track_size
+#include "model.c"
+
+#include "beleduritz.h"
+
+enum { NO_RECORD = 4 << 8, SUM_BYTES = 4, RECORD_BYTES = sizeof(struct model) + SUM_BYTES };
+
+_Static_assert(RECORD_BYTES <= 512, "a record has at most 512 bytes");
+_Static_assert(sizeof(struct model) % 4 == 0, "the checksum takes four bytes at a time");
+
+static uint32_t checksum(const uint8_t *bytes)
+{
+    uint32_t sum = 2166136261u, word;
+    for (size_t i = 0; i < sizeof(struct model); i += sizeof word) {
+        memcpy(&word, bytes + i, sizeof word);
+        sum = (sum ^ word) * 16777619u;
+    }
+    return sum;
+}
+
+static bool load(struct model *m, const uint8_t *record, size_t len)
+{
+    uint32_t sum;
+    if (len < RECORD_BYTES)
+        return false;
+    memcpy(&sum, record + sizeof *m, SUM_BYTES);
+    if (sum != checksum(record))
+        return false;
+    memcpy(m, record, sizeof *m);
+    return true;
+}
+
+static void store(const struct model *m, uint8_t *record)
+{
+    memcpy(record, m, sizeof *m);
+    uint32_t sum = checksum(record);
+    memcpy(record + sizeof *m, &sum, SUM_BYTES);
+}
+
+uint32_t bel_record_size(void) { return RECORD_BYTES; }
+
+uint32_t bel_power_on(uint8_t *record, size_t len, uint8_t head0, uint8_t head1)
+{
+    struct model m;
+    if (len < RECORD_BYTES)
+        return NO_RECORD;
+    uint32_t word = model_power_on(&m, head0, head1);
+    store(&m, record);
+    return word;
+}
+
+uint32_t bel_read_port(uint8_t *record, size_t len, uint8_t offset)
+{
+    struct model m;
+    if (!load(&m, record, len))
+        return NO_RECORD;
+    uint32_t word = model_read_port(&m, offset);
+    store(&m, record);
+    return word;
+}
+
+uint32_t bel_write_port(uint8_t *record, size_t len, uint8_t offset, uint8_t byte)
+{
+    struct model m;
+    if (!load(&m, record, len))
+        return NO_RECORD;
+    uint32_t word = model_write_port(&m, offset, byte);
+    store(&m, record);
+    return word;
+}
+
+uint32_t bel_dma_read(uint8_t *record, size_t len, uint8_t tc)
+{
+    struct model m;
+    if (!load(&m, record, len))
+        return NO_RECORD;
+    uint32_t word = model_dma_read(&m, tc != 0);
+    store(&m, record);
+    return word;
+}
+
+uint32_t bel_dma_write(uint8_t *record, size_t len, uint8_t byte, uint8_t tc)
+{
+    struct model m;
+    if (!load(&m, record, len))
+        return NO_RECORD;
+    uint32_t word = model_dma_write(&m, byte, tc != 0);
+    store(&m, record);
+    return word;
+}
+
+uint32_t bel_tick(uint8_t *record, size_t len, uint8_t *image0, size_t len0, uint8_t *image1, size_t len1)
+{
+    struct model m;
+    if (!load(&m, record, len))
+        return NO_RECORD;
+    uint32_t word = model_tick(&m, (struct image){ image0, len0 }, (struct image){ image1, len1 });
+    store(&m, record);
+    return word;
+}
+
+uint32_t bel_note_change(uint8_t *record, size_t len, uint8_t drive)
+{
+    struct model m;
+    if (!load(&m, record, len))
+        return NO_RECORD;
+    uint32_t word = model_note_change(&m, drive);
+    store(&m, record);
+    return word;
+}
+
+uint64_t bel_ticks(uint8_t *record, size_t len, uint8_t *image0, size_t len0, uint8_t *image1, size_t len1, uint32_t n)
+{
+    struct model m;
+    if (!load(&m, record, len))
+        return NO_RECORD;
+    uint64_t word = model_ticks(&m, (struct image){ image0, len0 }, (struct image){ image1, len1 }, n);
+    store(&m, record);
+    return word;
+}
