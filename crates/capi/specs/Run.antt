@@ -1,0 +1,54 @@
+-- Many ticks: that many, each the tick of the rules (01 Calls), up to and with the first that changes INT or DRQ
+-- (house).
+-- Assumes nothing.
+use Prim.Native.Nat.{ℕ, zero, suc, _+_}
+use mathlib.Core.Bool.{Bool, not, _&&_, cond, Bool·beq}
+use mathlib.Core.List.{List}
+use Rattle.chip.specs.declared.refusal.Refusal.the-variants.{Damaged}
+use Rattle.fdc.specs.declared.answer.Answer.{Answer}
+use Rattle.fdc.specs.declared.answer.Reply.the-variants.{Done, Refused}
+use Rattle.fdc.specs.declared.record.Controller.{Controller}
+use Rattle.fdc.specs.Answer.{answerOf}
+use Rattle.fdc.specs.Record.{validOf}
+use Rattle.fdc.specs.Ticks.{tickOf, imageAfter}
+
+-- after some ticks: the last one's answer, how many were made, and both images
+pub record Ran : Type 0 where
+  pub answer : Answer
+  pub made : ℕ
+  pub first : List ℕ
+  pub second : List ℕ
+
+abbrev pub ranOf : Answer → ℕ → List ℕ → List ℕ → Ran
+ranOf answer made a b = record { answer = answer; made = made; first = a; second = b }
+
+-- one tick more
+unfoldable pub ticked : Ran → Ran
+ticked r =
+    record {
+      answer = tickOf (r .first) (r .second) (r .answer .controller);
+      made = r .made + 1;
+      first = imageAfter 0 (r .first) (r .second) (r .answer .controller) (r .first);
+      second = imageAfter 1 (r .first) (r .second) (r .answer .controller) (r .second);
+    }
+
+abbrev pub changed : Bool → Bool → Bool → Bool → Bool
+changed int drq int' drq' = not (Bool·beq int int' && Bool·beq drq drq')
+
+abbrev pub changedIn : Answer → Answer → Bool
+changedIn p q = changed (p .int) (p .drq) (q .int) (q .drq)
+
+unfoldable pub runOf : ℕ → Ran → Ran
+runOf zero r = r
+runOf (suc n) r = cond (changedIn (r .answer) (ticked r .answer)) (ticked r) (runOf n (ticked r))
+
+-- before the first tick: value 0 and the record's lines
+abbrev pub startOf : List ℕ → List ℕ → Controller → Ran
+startOf a b c = ranOf (answerOf Done c) 0 a b
+
+-- 01 Refusals 4: of a damaged record no tick is made
+abbrev pub refusedOf : List ℕ → List ℕ → Controller → Ran
+refusedOf a b c = ranOf (answerOf (Refused Damaged) c) 0 a b
+
+unfoldable pub ticksOf : ℕ → List ℕ → List ℕ → Controller → Ran
+ticksOf n a b c = cond (validOf c) (runOf n (startOf a b c)) (refusedOf a b c)

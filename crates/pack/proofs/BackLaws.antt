@@ -1,0 +1,216 @@
+-- Reading back what was written is the record (house).
+-- Assumes nothing.
+use Prim.Native.Nat.{ℕ, zero, suc, _+_, _*_, _/_, _%_, _≤_, _<_}
+use mathlib.Core.Bool.{Bool, true, false, _&&_, cond}
+use mathlib.Core.List.{List, [], _∷_, _++_}
+use mathlib.Core.Path.{_≡_, refl, sym, ap, _∙_}
+use native.Mathlib.Omega.{arith}
+use native.Mathlib.Nat.{div-add-mod'}
+use lib.Dec.{eqb, leb}
+use lib.ListN.{length, getD, take, drop, replicate}
+use lib.Seq.{drop-cons, take-all}
+use borrow.Author.Tests.{le-leb}
+use Rattle.chip.specs.declared.codes.Kind.{Kind}
+use Rattle.chip.specs.declared.codes.Kind.the-variants.{Unknown, ReadData, ReadDeleted, WriteData, WriteDeleted, ReadId}
+use Rattle.chip.specs.declared.codes.Kind.the-variants.{Format, Recalibrate, SenseInterrupt, Specify, SenseDrive, Seek}
+use Rattle.chip.specs.declared.codes.Kind.the-variants.{Version, Configure}
+use Rattle.chip.specs.declared.fifo.Fifo.{Fifo}
+use Rattle.chip.specs.Commands.{kindNumber, kindNumbered}
+use Rattle.drive.specs.declared.Drive.{Drive}
+use Rattle.drive.specs.declared.Motion.{Motion}
+use Rattle.drive.specs.declared.Motion.the-variants.{Still, Seeking, Recalibrating}
+use Rattle.sectors.specs.declared.order.Pass.{Pass}
+use Rattle.sectors.specs.declared.order.Pass.the-variants.{Read, Write}
+use Rattle.fdc.specs.declared.record.Bytes.{Bytes}
+use Rattle.fdc.specs.declared.record.Controller.{Controller}
+use Rattle.fdc.specs.declared.record.Registers.{Registers}
+use Rattle.fdc.specs.Record.{driveAt, noDrive}
+use Rattle.pack.specs.declared.flat.Flat.{Flat}
+use Rattle.pack.specs.Back.{Holds, Typed}
+use Rattle.pack.specs.Bytes.{bitOf, highOf, lowOf, wideOf, passNumber, passNumbered, registersBytes, registersIn}
+use Rattle.pack.specs.Bytes.{courseOf, motionOf, driveBytes, driveIn, fifoBytes, fifoIn, gatheredBytes, gatheredIn}
+use Rattle.pack.specs.Bytes.{flatBytes, flatIn, bytesOf, recordIn, recordSize, driveOk, frontOk, workOk, casesOk}
+use Rattle.pack.specs.Bytes.{isRecord}
+use Rattle.pack.specs.Flat.{phaseFlat, phaseOf}
+use Rattle.pack.proofs.FlatLaws.{phase-back, FlatWithin, phase-within}
+
+flag-back : (flag : Bool) → eqb (bitOf flag) 1 ≡ flag
+flag-back true = refl
+flag-back false = refl
+
+pass-back : (pass : Pass) → passNumbered (passNumber pass) ≡ pass
+unfolding passNumbered
+pass-back Read = refl
+pass-back Write = refl
+
+kind-back : (kind : Kind) → kindNumbered (kindNumber kind) ≡ kind
+unfolding kindNumbered
+kind-back Unknown = refl
+kind-back ReadData = refl
+kind-back ReadDeleted = refl
+kind-back WriteData = refl
+kind-back WriteDeleted = refl
+kind-back ReadId = refl
+kind-back Format = refl
+kind-back Recalibrate = refl
+kind-back SenseInterrupt = refl
+kind-back Specify = refl
+kind-back SenseDrive = refl
+kind-back Seek = refl
+kind-back Version = refl
+kind-back Configure = refl
+
+wide-back : (x : ℕ) → x < 0x10000 → wideOf (highOf x) (lowOf x) ≡ x
+wide-back x h = omega arith
+
+motion-back : (motion : Motion)
+    → motionOf (courseOf motion .tag) (courseOf motion .target) (courseOf motion .steps) (courseOf motion .wait) ≡ motion
+unfolding motionOf
+motion-back Still = refl
+motion-back (Seeking target steps wait) = refl
+motion-back (Recalibrating steps wait) = refl
+
+-- the n elements from place k on, written out
+abbrev spelt : {A : Type 0} → A → List A → ℕ → ℕ → List A
+spelt d l k zero = []
+spelt d l k (suc n) = getD l k d ∷ spelt d l (suc k) n
+
+spelt-part : {A : Type 0} (d : A) (l : List A) (k n : ℕ) → k + n ≤ length l → spelt d l k n ≡ take n (drop k l)
+spelt-part d l k zero h = refl
+spelt-part d l k (suc n) h =
+    let below : k < length l = omega arith in
+    let rest : suc k + n ≤ length l = omega arith in
+    rw (drop-cons l k d below) (ap (λ r. getD l k d ∷ r) (spelt-part d l (suc k) n rest))
+
+spelt-whole : {A : Type 0} (d : A) (l : List A) (n : ℕ) → length l ≡ n → spelt d l 0 n ≡ l
+spelt-whole d l n e =
+    let h : 0 + n ≤ length l = omega arith in
+    let g : length l ≤ n = omega arith in
+    spelt-part d l 0 n h ∙ take-all n l g
+
+-- bytes from place k on
+abbrev behind : ℕ → List ℕ → List ℕ
+behind k l = replicate k 0 ++ l
+
+registers-back : (r : Registers) → registersIn (registersBytes r) ≡ r
+registers-back r = rw (flag-back (r .eis), flag-back (r .efifo), flag-back (r .poll))
+
+drive-back : (d : Drive) → courseOf (d .motion) .wait < 0x10000 → driveIn (driveBytes d) 0 ≡ d
+drive-back d h =
+    rw (flag-back (d .changed), flag-back (d .busy), wide-back (courseOf (d .motion) .wait) h, motion-back (d .motion))
+
+fifo-back : (f : Fifo) → length (f .bytes) ≡ 16 → fifoIn (behind 50 (fifoBytes f)) ≡ f
+fifo-back f h = rw (flag-back (f .asks), flag-back (f .tc), spelt-whole 0 (f .bytes) 16 h)
+
+gathered-back : (b : Bytes) → length (b .command) ≡ 9 → length (b .results) ≡ 7
+    → gatheredIn (behind 69 (gatheredBytes b)) ≡ b
+gathered-back b h g = rw (spelt-whole 0 (b .command) 9 h, spelt-whole 0 (b .results) 7 g)
+
+flat-back : (f : Flat) → f .spot .done < 0x10000 → flatIn (behind 87 (flatBytes f)) ≡ f
+flat-back f h =
+    rw (
+      kind-back (f .entry .kind),
+      flag-back (f .loud),
+      flag-back (f .site .disk .protect),
+      pass-back (f .task .transfer .pass),
+      flag-back (f .task .transfer .deleted),
+      flag-back (f .task .transfer .mt),
+      flag-back (f .task .transfer .sk),
+      flag-back (f .task .other),
+      flag-back (f .spot .met),
+      flag-back (f .spot .wrong),
+      flag-back (f .spot .bad),
+      flag-back (f .spot .broken),
+      flag-back (f .spot .other),
+      wide-back (f .spot .done) h,
+    )
+
+-- each part is read where it was written
+parts : (c : Controller) (rest : List ℕ)
+    → recordIn (bytesOf c ++ rest)
+    ≡ record {
+      registers = registersIn (registersBytes (c .registers));
+      drives =
+          driveIn (driveBytes (driveAt 0 (c .drives))) 0
+          ∷ driveIn (driveBytes (driveAt 1 (c .drives))) 0
+          ∷ driveIn (driveBytes (driveAt 2 (c .drives))) 0
+          ∷ driveIn (driveBytes (driveAt 3 (c .drives))) 0
+          ∷ [];
+      fifo = fifoIn (behind 50 (fifoBytes (c .fifo)));
+      bytes = gatheredIn (behind 69 (gatheredBytes (c .bytes)));
+      phase = phaseOf (flatIn (behind 87 (flatBytes (phaseFlat (c .phase)))));
+    }
+unfolding recordIn bytesOf
+parts c rest = refl
+
+pub read-back : (c : Controller) (rest : List ℕ) → Typed c → recordIn (bytesOf c ++ rest) ≡ c
+read-back c rest t =
+    parts c rest
+    ∙ rw (
+      registers-back (c .registers),
+      drive-back (driveAt 0 (c .drives)) (t .drives .wait0),
+      drive-back (driveAt 1 (c .drives)) (t .drives .wait1),
+      drive-back (driveAt 2 (c .drives)) (t .drives .wait2),
+      drive-back (driveAt 3 (c .drives)) (t .drives .wait3),
+      spelt-whole noDrive (c .drives) 4 (t .drives .long),
+      fifo-back (c .fifo) (t .fifo),
+      gathered-back (c .bytes) (t .command) (t .results),
+      flat-back (phaseFlat (c .phase)) (t .done),
+      phase-back (c .phase),
+    )
+
+flag-within : (flag : Bool) → leb (bitOf flag) 1 ≡ true
+flag-within true = refl
+flag-within false = refl
+
+pass-within : (pass : Pass) → leb (passNumber pass) 1 ≡ true
+pass-within Read = refl
+pass-within Write = refl
+
+kind-within : (kind : Kind) → leb (kindNumber kind) 13 ≡ true
+kind-within Unknown = refl
+kind-within ReadData = refl
+kind-within ReadDeleted = refl
+kind-within WriteData = refl
+kind-within WriteDeleted = refl
+kind-within ReadId = refl
+kind-within Format = refl
+kind-within Recalibrate = refl
+kind-within SenseInterrupt = refl
+kind-within Specify = refl
+kind-within SenseDrive = refl
+kind-within Seek = refl
+kind-within Version = refl
+kind-within Configure = refl
+
+course-within : (motion : Motion) → leb (courseOf motion .tag) 2 ≡ true
+course-within Still = refl
+course-within (Seeking target steps wait) = refl
+course-within (Recalibrating steps wait) = refl
+
+long : (c : Controller) (rest : List ℕ) → recordSize ≤ length (bytesOf c ++ rest)
+unfolding bytesOf
+long c rest = omega arith
+
+-- what is written has its flags and cases in range
+pub cases-ok : (c : Controller) (rest : List ℕ) → casesOk (bytesOf c ++ rest) ≡ true
+unfolding casesOk frontOk driveOk workOk bytesOf
+cases-ok c rest =
+    let f : FlatWithin (phaseFlat (c .phase)) = phase-within (c .phase) in
+    simp (
+      flag-within,
+      pass-within,
+      kind-within,
+      course-within,
+      f .tag,
+      f .work,
+      f .stage,
+      f .form,
+    )
+
+pub is-record : (c : Controller) (rest : List ℕ) → isRecord (bytesOf c ++ rest) ≡ true
+unfolding isRecord
+is-record c rest = rw (le-leb recordSize (length (bytesOf c ++ rest)) (long c rest), cases-ok c rest)
+
+pub holds : (c : Controller) (rest : List ℕ) → Typed c → Holds (bytesOf c ++ rest) c
+holds c rest t = record { good = is-record c rest; back = read-back c rest t }

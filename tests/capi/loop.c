@@ -1,0 +1,164 @@
+/* A firmware loop over the disk box, as an example and as a test: power-on, reset released, the four reports taken, a
+ * sector of a small image read by DMA, one written, and the refusals. Prints nothing but its last line. */
+#include <stdio.h>
+#include <stdlib.h>
+#include <string.h>
+
+#include "beleduritz.h"
+
+#define CHECK(what)                                                              \
+  do {                                                                           \
+    if (!(what)) {                                                               \
+      fprintf(stderr, "%s:%d: %s\n", __FILE__, __LINE__, #what);                 \
+      exit(1);                                                                   \
+    }                                                                            \
+  } while (0)
+
+/* One cylinder, one side, two slots of 256 bytes. */
+enum { SLOTS = 2, SECTOR = 256, SLOT = 5 + SECTOR, IMAGE = 8 + 5 + SLOTS * SLOT + 3 };
+
+static uint8_t record[BEL_RECORD_MAX];
+static uint8_t image[IMAGE];
+static uint8_t none[1];
+
+static size_t data_of(int slot) { return 8 + 5 + (size_t)slot * SLOT + 5; }
+
+static void make_image(void) {
+  const uint8_t header[8] = {1, 0, 5, 1, 1, SLOTS, 1, 0};
+  const size_t track = SLOTS * SLOT + 2;
+  memcpy(image, header, 8);
+  image[8] = 2;
+  image[9] = (uint8_t)(track >> 8);
+  image[10] = (uint8_t)track;
+  image[11] = 0;
+  image[12] = 0;
+  for (int k = 0; k < SLOTS; k++) {
+    const uint8_t id[5] = {1, 0, 0, (uint8_t)(k + 1), 1};
+    memcpy(image + data_of(k) - 5, id, 5);
+    for (int i = 0; i < SECTOR; i++) image[data_of(k) + (size_t)i] = (uint8_t)(i * 7 + k);
+  }
+  image[IMAGE - 3] = 3;
+}
+
+static uint32_t put(uint8_t offset, uint8_t byte) {
+  const uint32_t word = bel_write_port(record, sizeof record, offset, byte);
+  CHECK(BEL_REFUSAL(word) == 0);
+  return word;
+}
+
+static uint8_t get(uint8_t offset) {
+  const uint32_t word = bel_read_port(record, sizeof record, offset);
+  CHECK(BEL_REFUSAL(word) == 0);
+  return BEL_VALUE(word);
+}
+
+static void command(const uint8_t *bytes, int n) {
+  for (int i = 0; i < n; i++) {
+    CHECK((get(4) & 0xC0) == 0x80);
+    put(5, bytes[i]);
+  }
+}
+
+static void results(uint8_t *bytes, int n) {
+  for (int i = 0; i < n; i++) {
+    CHECK((get(4) & 0xC0) == 0xC0);
+    bytes[i] = get(5);
+  }
+}
+
+/* Ticks until a line is on. */
+static uint32_t wait_line(void) {
+  for (;;) {
+    const uint64_t ran = bel_ticks(record, sizeof record, image, sizeof image, none, 0, 100000);
+    const uint32_t word = BEL_LAST(ran);
+    CHECK(BEL_REFUSAL(word) == 0);
+    CHECK(BEL_MADE(ran) > 0);
+    if (BEL_INT(word) || BEL_DRQ(word)) return word;
+  }
+}
+
+static void read_sector(uint8_t r, uint8_t *to) {
+  const uint8_t bytes[9] = {0x46, 0, 0, 0, r, 1, r, 0x1B, 0xFF};
+  uint8_t result[7];
+  command(bytes, 9);
+  for (int i = 0; i < SECTOR; i++) {
+    uint32_t word = bel_ticks(record, sizeof record, image, sizeof image, none, 0, 0) & 0xFFFFFFFFu;
+    if (!BEL_DRQ(word)) word = wait_line();
+    CHECK(BEL_DRQ(word));
+    word = bel_dma_read(record, sizeof record, i == SECTOR - 1);
+    CHECK(BEL_REFUSAL(word) == 0);
+    to[i] = BEL_VALUE(word);
+  }
+  CHECK(BEL_INT(wait_line()));
+  results(result, 7);
+  CHECK(result[0] == 0 && result[1] == 0 && result[2] == 0);
+  CHECK(result[5] == 1 && result[3] == 1);
+}
+
+static void write_sector(uint8_t r, const uint8_t *from) {
+  const uint8_t bytes[9] = {0x45, 0, 0, 0, r, 1, r, 0x1B, 0xFF};
+  uint8_t result[7];
+  command(bytes, 9);
+  for (int i = 0; i < SECTOR; i++) {
+    uint32_t word = bel_ticks(record, sizeof record, image, sizeof image, none, 0, 0) & 0xFFFFFFFFu;
+    if (!BEL_DRQ(word)) word = wait_line();
+    CHECK(BEL_DRQ(word));
+    word = bel_dma_write(record, sizeof record, from[i], i == SECTOR - 1);
+    CHECK(BEL_REFUSAL(word) == 0);
+  }
+  CHECK(BEL_INT(wait_line()));
+  results(result, 7);
+  CHECK(result[0] == 0 && result[1] == 0 && result[2] == 0);
+}
+
+static void refusals(void) {
+  uint8_t before[BEL_RECORD_MAX];
+  uint8_t short_record[BEL_RECORD_MAX];
+  const uint32_t size = bel_record_size();
+  memcpy(before, record, sizeof record);
+  CHECK(BEL_REFUSAL(bel_read_port(record, sizeof record, 0)) == BEL_REFUSED_PORT);
+  CHECK(BEL_REFUSAL(bel_read_port(record, sizeof record, 5)) == BEL_REFUSED_TURN);
+  CHECK(BEL_REFUSAL(bel_dma_read(record, sizeof record, 0)) == BEL_REFUSED_LINE);
+  CHECK(BEL_REFUSAL(bel_note_change(record, sizeof record, 2)) == BEL_REFUSED_DRIVE);
+  CHECK(bel_read_port(record, size - 1, 4) == 0x400);
+  CHECK(bel_power_on(record, size - 1, 0, 0) == 0x400);
+  CHECK(bel_ticks(record, size - 1, image, sizeof image, none, 0, 5) == 0x400);
+  CHECK(memcmp(before, record, sizeof record) == 0);
+  memset(short_record, 0xFF, sizeof short_record);
+  memcpy(before, short_record, sizeof before);
+  CHECK(bel_read_port(short_record, sizeof short_record, 4) == 0x400);
+  CHECK(memcmp(before, short_record, sizeof before) == 0);
+  CHECK(BEL_REFUSAL(bel_power_on(short_record, sizeof short_record, 82, 0)) == BEL_REFUSED_HEAD);
+  CHECK(bel_read_port(short_record, size, 2) == 0);
+  for (size_t i = size; i < sizeof short_record; i++) CHECK(short_record[i] == 0xFF);
+}
+
+int main(void) {
+  uint8_t sector[SECTOR];
+  make_image();
+  CHECK(bel_record_size() <= BEL_RECORD_MAX);
+  CHECK(bel_power_on(record, sizeof record, 0, 0) == 0);
+  /* Not-reset, gate, motor 0: the reset is released, and four reports are waiting. */
+  CHECK(BEL_INT(put(2, 0x1C)));
+  for (uint8_t k = 0; k < 4; k++) {
+    const uint8_t sense = 0x08;
+    uint8_t result[2];
+    command(&sense, 1);
+    results(result, 2);
+    CHECK(result[0] == 0xC0 + k && result[1] == 0);
+  }
+  refusals();
+  for (uint8_t r = 1; r <= SLOTS; r++) {
+    read_sector(r, sector);
+    CHECK(memcmp(sector, image + data_of(r - 1), SECTOR) == 0);
+  }
+  for (int i = 0; i < SECTOR; i++) sector[i] = (uint8_t)(255 - i);
+  write_sector(2, sector);
+  CHECK(memcmp(sector, image + data_of(1), SECTOR) == 0);
+  CHECK(image[data_of(1) - 5] == 1);
+  memset(sector, 0, SECTOR);
+  read_sector(2, sector);
+  CHECK(sector[0] == 255 && sector[SECTOR - 1] == 0);
+  puts("capi loop: ok");
+  return 0;
+}
