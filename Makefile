@@ -1,5 +1,9 @@
-# Two commands: `make demo` shows a save, a power cut and what comes after it; `make test` is the gate.
-.PHONY: demo test
+# `make demo` shows a save, a power cut and what comes after it; `make test` is the gate; `make fuzz CALLS=..` runs the
+# library beside the independent model; `make bench` measures the two.
+.PHONY: demo test fuzz bench library
+
+CALLS ?= 10000000
+SEED ?= 1
 
 demo:
 	rt check replay >/dev/null
@@ -7,3 +11,12 @@ demo:
 
 test:
 	.ci/run
+
+library:
+	rt staticlib capi >/dev/null
+
+fuzz: library
+	LIB=target/staticlib/libcapi.a tests/fuzz/run $(CALLS) $(SEED)
+
+bench: library
+	@LIB=target/staticlib/libcapi.a bench/run
