@@ -9,6 +9,7 @@
 #include <time.h>
 
 #include "beleduritz.h"
+#include "lent.h"
 #include "model.h"
 
 enum { INT_LINE = 1 << 16, DRQ_LINE = 1 << 17, RUNS = 3 };
@@ -34,11 +35,11 @@ static uint32_t lib_read_port(uint8_t offset) { return bel_read_port(record, siz
 static uint32_t lib_write_port(uint8_t offset, uint8_t byte) { return bel_write_port(record, sizeof record, offset, byte); }
 static uint32_t lib_dma_read(bool tc) { return bel_dma_read(record, sizeof record, tc); }
 static uint32_t lib_dma_write(uint8_t byte, bool tc) { return bel_dma_write(record, sizeof record, byte, tc); }
-static uint32_t lib_tick(void) { return bel_tick(record, sizeof record, image.bytes, image.length, NULL, 0); }
+static uint32_t lib_tick(void) { return bel_tick(record, sizeof record, image.bytes, image.length, lent(NULL), 0); }
 
 static uint64_t lib_ticks(uint32_t n)
 {
-    return bel_ticks(record, sizeof record, image.bytes, image.length, NULL, 0, n);
+    return bel_ticks(record, sizeof record, image.bytes, image.length, lent(NULL), 0, n);
 }
 
 static const struct image no_image;

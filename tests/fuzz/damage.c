@@ -5,6 +5,7 @@
 #include <string.h>
 
 #include "beleduritz.h"
+#include "lent.h"
 #include "chance.h"
 
 static unsigned long tried, refused, short_tried;
@@ -43,9 +44,9 @@ static uint64_t any_library_call(uint8_t *record, size_t len, const struct image
     case 4:
         return bel_note_change(record, len, (uint8_t)below(3));
     case 5:
-        return bel_ticks(record, len, i[0].bytes, i[0].length, i[1].bytes, i[1].length, below(400));
+        return bel_ticks(record, len, lent(i[0].bytes), i[0].length, lent(i[1].bytes), i[1].length, below(400));
     default:
-        return bel_tick(record, len, i[0].bytes, i[0].length, i[1].bytes, i[1].length);
+        return bel_tick(record, len, lent(i[0].bytes), i[0].length, lent(i[1].bytes), i[1].length);
     }
 }
 

@@ -4,6 +4,7 @@
 #include <string.h>
 
 #include "beleduritz.h"
+#include "lent.h"
 
 /* ---- bytes with guards around them ---- */
 
@@ -118,7 +119,7 @@ static uint32_t library_answers(struct world *w, const struct event *e)
     case NOTE_CHANGE:
         return bel_note_change(w->record, w->len, e->a);
     default:
-        return bel_tick(w->record, w->len, w->lent[0].bytes, w->lent[0].length, w->lent[1].bytes,
+        return bel_tick(w->record, w->len, lent(w->lent[0].bytes), w->lent[0].length, lent(w->lent[1].bytes),
                         w->lent[1].length);
     }
 }
@@ -204,7 +205,7 @@ enum { LINES = 3 << 16 };
 /* bel_ticks: as many ticks of the model as its contract says, counted here and not by the model */
 static struct difference play_ticks_at_once(struct world *w, const struct event *e, watcher watch)
 {
-    uint64_t library = bel_ticks(w->record, w->len, w->lent[0].bytes, w->lent[0].length, w->lent[1].bytes,
+    uint64_t library = bel_ticks(w->record, w->len, lent(w->lent[0].bytes), w->lent[0].length, lent(w->lent[1].bytes),
                                  w->lent[1].length, e->n);
     uint32_t before = model_read_port(&w->model, 4) & LINES, model = before, made = 0;
     while (made < e->n && (model & LINES) == before) {

@@ -6,6 +6,7 @@
 #include <string.h>
 
 #include "beleduritz.h"
+#include "lent.h"
 
 enum { INT_LINE = 1 << 16, DRQ_LINE = 1 << 17 };
 
@@ -28,7 +29,7 @@ static void example(const char *name)
 
 static uint32_t write_port(uint8_t offset, uint8_t byte) { return bel_write_port(record, sizeof record, offset, byte); }
 static uint32_t read_port(uint8_t offset) { return bel_read_port(record, sizeof record, offset); }
-static uint32_t tick(void) { return bel_tick(record, sizeof record, image, length, NULL, 0); }
+static uint32_t tick(void) { return bel_tick(record, sizeof record, lent(image), length, lent(NULL), 0); }
 
 static uint32_t ticks(unsigned n)
 {

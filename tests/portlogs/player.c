@@ -12,6 +12,7 @@
 #include <string.h>
 
 #include "beleduritz.h"
+#include "lent.h"
 
 enum { CYLINDERS = 80, SIDES = 2, SLOTS = 18, N = 2, SECTOR = 512, SLOT = 5 + SECTOR, TRACK = 5 + SLOTS * SLOT };
 enum { IMAGE = 8 + CYLINDERS * SIDES * TRACK + 3, PATIENCE = 200000 };
@@ -131,7 +132,7 @@ static void tick(void)
         serve_dma();
         return;
     }
-    uint64_t made = bel_ticks(record, sizeof record, image, image_length, NULL, 0, 1000);
+    uint64_t made = bel_ticks(record, sizeof record, lent(image), image_length, lent(NULL), 0, 1000);
     word = (uint32_t)made;
     ticks += made >> 32;
 }
