@@ -133,6 +133,55 @@ static void refusals(void) {
   for (size_t i = size; i < sizeof short_record; i++) CHECK(short_record[i] == 0xFF);
 }
 
+/* Random bytes for a record, and records with a byte spoilt: nothing traps, what is lent behind the record stays, a
+ * refusal changes nothing, and one tick is the same by either call. */
+static uint32_t seed = 1;
+
+static uint8_t noise(void) {
+  seed = seed * 1664525u + 1013904223u;
+  return (uint8_t)(seed >> 24);
+}
+
+static uint32_t any_call(uint8_t *r, size_t len, uint8_t *disk) {
+  const uint8_t x = noise(), y = noise();
+  switch (noise() % 6) {
+    case 0: return bel_read_port(r, len, x % 9);
+    case 1: return bel_write_port(r, len, x % 9, y);
+    case 2: return bel_dma_read(r, len, x & 1);
+    case 3: return bel_dma_write(r, len, x, y & 1);
+    case 4: return bel_note_change(r, len, x % 3);
+    default: return bel_tick(r, len, disk, IMAGE, none, 0);
+  }
+}
+
+static void damaged(void) {
+  const uint32_t size = bel_record_size();
+  uint8_t good[BEL_RECORD_MAX], r[BEL_RECORD_MAX], before[BEL_RECORD_MAX], other[BEL_RECORD_MAX];
+  uint8_t disk[IMAGE], disk_before[IMAGE], disk_other[IMAGE];
+  memcpy(good, record, sizeof good);
+  for (int i = 0; i < 200000; i++) {
+    const int kind = i % 4;
+    for (size_t k = 0; k < sizeof r; k++) r[k] = kind == 0 ? noise() : kind == 1 ? noise() & 1 : good[k];
+    if (kind == 2) r[noise() % size] = noise();
+    memcpy(disk, image, IMAGE);
+    memcpy(before, r, sizeof r);
+    const uint32_t word = any_call(r, sizeof r, disk);
+    CHECK(memcmp(before + size, r + size, sizeof r - size) == 0);
+    CHECK(BEL_REFUSAL(word) == 0 || (memcmp(before, r, size) == 0 && memcmp(disk, image, IMAGE) == 0));
+    if (kind == 3 && BEL_REFUSAL(word) == 0) memcpy(good, r, sizeof good);
+    memcpy(other, r, sizeof r);
+    memcpy(disk_before, disk, IMAGE);
+    memcpy(disk_other, disk, IMAGE);
+    const uint32_t tick = bel_tick(r, sizeof r, disk, IMAGE, none, 0);
+    const uint64_t ticks = bel_ticks(other, sizeof other, disk_other, IMAGE, none, 0, 1);
+    CHECK(BEL_LAST(ticks) == tick && BEL_MADE(ticks) == (BEL_REFUSAL(tick) == 0));
+    CHECK(memcmp(r, other, sizeof r) == 0 && memcmp(disk, disk_other, IMAGE) == 0);
+    int differ = 0;
+    for (int k = 0; k < IMAGE; k++) differ += disk[k] != disk_before[k];
+    CHECK(differ <= 1);
+  }
+}
+
 int main(void) {
   uint8_t sector[SECTOR];
   make_image();
@@ -159,6 +208,7 @@ int main(void) {
   memset(sector, 0, SECTOR);
   read_sector(2, sector);
   CHECK(sector[0] == 255 && sector[SECTOR - 1] == 0);
+  damaged();
   puts("capi loop: ok");
   return 0;
 }

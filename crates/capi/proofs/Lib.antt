@@ -1,1 +1,3 @@
+pub mod KeepLaws
 pub mod RunLaws
+pub mod WordLaws

@@ -3,7 +3,7 @@
 use Prim.Native.Nat.{ℕ, suc, _+_, _-_, _≤_, _<_}
 use mathlib.Core.Bool.{Bool, true, false, cond}
 use mathlib.Core.List.{List}
-use mathlib.Core.Path.{_≡_, refl, ap, _∙_}
+use mathlib.Core.Path.{_≡_, refl, sym, ap, _∙_}
 use native.Mathlib.Omega.{arith}
 use lib.Dec.{eqb}
 use lib.ListN.{length}
@@ -21,6 +21,14 @@ unfolding imageAfter
 image-length k a b c img =
     by-test (eqb (ruledOf a b c .drive) k) (λ (l : List ℕ). length l ≡ length img)
     (storedIn (ruledOf a b c .effect) img) img (λ e. effect-length (ruledOf a b c .effect) img) (λ e. refl)
+
+-- of two that are equal, the four parts
+pub parts : {r s : Ran} → r ≡ s
+    → (s .answer ≡ r .answer) × ((s .made ≡ r .made) × ((s .first ≡ r .first) × (s .second ≡ r .second)))
+parts e = (
+  ap (λ (r : Ran). r .answer) (sym e),
+  (ap (λ (r : Ran). r .made) (sym e), (ap (λ (r : Ran). r .first) (sym e), ap (λ (r : Ran). r .second) (sym e))),
+)
 
 -- one tick of those left
 pub run-step : (m : ℕ) (r : Ran)

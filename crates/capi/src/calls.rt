@@ -67,7 +67,8 @@ pub extern "C" fn bel_record_size() -> u32
 pub extern "C" fn bel_power_on(s: &mut [u8], head0: u8, head1: u8) -> u32
     ensures word { λ r. ⌜ r ≡ powerWord (now (s .entry)) (powerOn head0 head1) ⌝ }
     ensures bytes { λ _. ⌜ now (s .exit) ≡ powerBytes (now (s .entry)) (powerOn head0 head1) ⌝ }
-    ensures back { λ _. ⌜ (recordSize ≤ length (now (s .entry)) → Holds (now (s .exit)) (powerOn head0 head1 .controller)) ⌝ }
+    ensures back { λ _. ⌜ (recordSize ≤ length (now (s .entry))
+        → Holds (now (s .exit)) (powerOn head0 head1 .controller)) ⌝ }
 {
     let enough = 124 <= s.len();
     if enough {
@@ -173,7 +174,8 @@ pub extern "C" fn bel_tick(s: &mut [u8], image0: &mut [u8], image1: &mut [u8]) -
     ensures bytes { λ _. ⌜ now (s .exit)
         ≡ bytesFrom (now (s .entry))
         (tickOf (now (image0 .entry)) (now (image1 .entry)) (recordIn (now (s .entry)))) ⌝ }
-    ensures back { λ _. ⌜ HoldsFrom (now (s .entry)) (tickOf (now (image0 .entry)) (now (image1 .entry)) (recordIn (now (s .entry))))
+    ensures back { λ _. ⌜ HoldsFrom (now (s .entry))
+        (tickOf (now (image0 .entry)) (now (image1 .entry)) (recordIn (now (s .entry))))
         (now (s .exit)) ⌝ }
     ensures first { λ _. ⌜ now (image0 .exit)
         ≡ imageFrom 0 (now (s .entry)) (now (image0 .entry)) (now (image1 .entry)) (now (image0 .entry)) ⌝ }
@@ -196,7 +198,8 @@ pub extern "C" fn bel_ticks(s: &mut [u8], image0: &mut [u8], image1: &mut [u8], 
     ensures bytes { λ _. ⌜ now (s .exit)
         ≡ bytesFrom (now (s .entry))
         (ticksOf n (now (image0 .entry)) (now (image1 .entry)) (recordIn (now (s .entry))) .answer) ⌝ }
-    ensures back { λ _. ⌜ HoldsFrom (now (s .entry)) (ticksOf n (now (image0 .entry)) (now (image1 .entry)) (recordIn (now (s .entry))) .answer)
+    ensures back { λ _. ⌜ HoldsFrom (now (s .entry))
+        (ticksOf n (now (image0 .entry)) (now (image1 .entry)) (recordIn (now (s .entry))) .answer)
         (now (s .exit)) ⌝ }
     ensures first { λ _. ⌜ now (image0 .exit)
         ≡ firstFrom n (now (s .entry)) (now (image0 .entry)) (now (image1 .entry)) ⌝ }

@@ -28,7 +28,8 @@ use Rattle.fdc.specs.Record.{driveAt, noDrive}
 use Rattle.pack.specs.declared.flat.Flat.{Flat}
 use Rattle.pack.specs.Back.{Holds, Typed}
 use Rattle.pack.specs.Bytes.{bitOf, highOf, lowOf, wideOf, passNumber, passNumbered, registersBytes, registersIn}
-use Rattle.pack.specs.Bytes.{courseOf, motionOf, driveBytes, driveIn, fifoBytes, fifoIn, gatheredBytes, gatheredIn}
+use Rattle.pack.specs.Bytes.{courseOf, motionOf, driveBytes, driveIn, fifoBytes, fifoIn}
+use Rattle.pack.specs.Bytes.{gatheredBytes, gatheredIn}
 use Rattle.pack.specs.Bytes.{flatBytes, flatIn, bytesOf, recordIn, recordSize, driveOk, frontOk, workOk, casesOk}
 use Rattle.pack.specs.Bytes.{isRecord}
 use Rattle.pack.specs.Flat.{phaseFlat, phaseOf}
@@ -64,7 +65,8 @@ wide-back : (x : ℕ) → x < 0x10000 → wideOf (highOf x) (lowOf x) ≡ x
 wide-back x h = omega arith
 
 motion-back : (motion : Motion)
-    → motionOf (courseOf motion .tag) (courseOf motion .target) (courseOf motion .steps) (courseOf motion .wait) ≡ motion
+    → motionOf (courseOf motion .tag) (courseOf motion .target) (courseOf motion .steps) (courseOf motion .wait)
+    ≡ motion
 unfolding motionOf
 motion-back Still = refl
 motion-back (Seeking target steps wait) = refl

@@ -15,7 +15,8 @@ use Rattle.sectors.specs.declared.work.Work.the-variants.{Identifying, Moving, 
 use Rattle.fdc.specs.declared.record.Phase.{Phase}
 use Rattle.fdc.specs.declared.record.Phase.the-variants.{Idle, Gathering, Starting, Working, Sensing, Answering}
 use Rattle.pack.specs.declared.flat.Flat.{Flat}
-use Rattle.pack.specs.Flat.{stageSpot, formSpot, phaseFlat, stageOf, formOf, jobOf, workOf, phaseOf, workFlat, jobFlat}
+use Rattle.pack.specs.Flat.{stageSpot, formSpot, jobFlat, workFlat, phaseFlat}
+use Rattle.pack.specs.Flat.{stageOf, formOf, jobOf, workOf, phaseOf}
 
 pub stage-back : (stage : Stage) → stageOf (stageSpot stage) ≡ stage
 unfolding stageOf
@@ -39,7 +40,8 @@ work-back (Identifying site slot passes) = refl
 work-back (Moving site task stage) = rw (stage-back stage)
 work-back (Formatting site plan f) = rw (form-back f)
 
-start-back : (drive side : ℕ) (job : Job) → phaseOf (jobFlat drive side job) ≡ Starting (record { drive = drive; side = side; job = job })
+start-back : (drive side : ℕ) (job : Job)
+    → phaseOf (jobFlat drive side job) ≡ Starting (record { drive = drive; side = side; job = job })
 unfolding phaseOf jobOf
 start-back drive side Identify = refl
 start-back drive side (Move transfer id) = refl

@@ -11,12 +11,18 @@ use lib.ListN.{length, drop, set}
 use lib.Seq.{sets, sets-eq}
 use Rattle.fdc.specs.declared.record.Controller.{Controller}
 use Rattle.pack.specs.Flat.{phaseFlat}
-use Rattle.pack.specs.Bytes.{recordSize, registersBytes, fifoBytes, gatheredBytes, drivesPut, flatPut, bytesOf, isRecord}
-use Rattle.pack.specs.Bytes.{recordIn, loadedOf}
+use Rattle.pack.specs.Bytes.{recordSize, registersBytes, fifoBytes, gatheredBytes, drivesPut, flatPut}
+use Rattle.pack.specs.Bytes.{bytesOf, isRecord, recordIn, loadedOf}
 
 -- ten stores, from a place on
 pub ten-put : (l : List ℕ) (at b0 b1 b2 b3 b4 b5 b6 b7 b8 b9 : ℕ)
-    → set (set (set (set (set (set (set (set (set (set l at b0) (at + 1) b1) (at + 2) b2) (at + 3) b3) (at + 4) b4) (at + 5) b5) (at + 6) b6) (at + 7) b7) (at + 8) b8) (at + 9) b9
+    → set
+    (set
+    (set (set (set (set (set (set (set (set l at b0) (at + 1) b1) (at + 2) b2) (at + 3) b3) (at + 4) b4) (at + 5) b5)
+    (at + 6) b6)
+    (at + 7) b7)
+    (at + 8) b8)
+    (at + 9) b9
     ≡ sets l at (b0 ∷ b1 ∷ b2 ∷ b3 ∷ b4 ∷ b5 ∷ b6 ∷ b7 ∷ b8 ∷ b9 ∷ [])
 ten-put l at b0 b1 b2 b3 b4 b5 b6 b7 b8 b9 =
     let e1 : at + 1 ≡ suc at = omega arith in

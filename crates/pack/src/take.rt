@@ -282,8 +282,8 @@ fn cases_ok(s: &[u8]) -> bool
 pub fn is_record(s: &[u8]) -> bool
     ensures { λ r. ⌜ r ≡ isRecord (now (s .entry)) ⌝ }
 {
-    let enough = 124 <= s.len();
-    if enough {
+    let long = 124 <= s.len();
+    if long {
         return cases_ok(s);
     }
     false

@@ -1,76 +1,52 @@
+-- `capi::calls::bel_dma_read` meets its contract.
+-- Assumes nothing.
 use Rattle.capi.specs.Calls.{wordFrom, bytesFrom}
 use Rattle.pack.proofs.PutLaws.{record-loaded}
-use mathlib.Core.Path.{refl, sym, _∙_}
+use mathlib.Core.Path.{sym, _∙_}
 use mathlib.Core.Bool.{true≢false}
 use borrow.Author.Needs.{needs}
 use Rattle.capi.proofs.calls.bel_dma_read.Statement.{statement}
 use Rattle.capi.proofs.calls.bel_dma_read.Tie as tie
-use Rattle.capi.proofs.calls.bel_dma_read.Reads as reads
-use Rattle.capi.proofs.calls.bel_dma_read.Lts as lts
-use Rattle.capi.proofs.calls.finish.Reads as finish-reads
-use Rattle.capi.proofs.calls.set_in.Reads as set-in-reads
-use Rattle.fdc.proofs.record.Controller.dma_read.Reads as dma-read-reads
-use Rattle.pack.proofs.take.is_record.Reads as is-record-reads
-use Rattle.pack.proofs.take.load.Reads as load-reads
-
--- src/calls.rt:125:9
-is-record-requires : tie.Need-is-record-requires
-is-record-requires c κs = search needs
-
--- src/calls.rt:127:22
-load-requires : tie.Need-load-requires
-load-requires c κs = search needs
-
--- src/calls.rt:127:39
-set-in-requires : tie.Need-set-in-requires
-set-in-requires c κs = search needs
-
--- src/calls.rt:127:13
-dma-read-requires : tie.Need-dma-read-requires
-dma-read-requires c κs = search needs
-
--- src/calls.rt:128:9
-finish-requires : tie.Need-finish-requires
-finish-requires c κs = search needs
-
--- src/calls.rt:128:9
-same-length : tie.Need-same-length
-same-length c = search needs
-
--- src/calls.rt:128:9
-returns : tie.Need-returns
-unfolding wordFrom bytesFrom
-returns c =
-    let e = c .before .before .before .before .before .before .load .ensures ∙ record-loaded _ (sym (c .before .before .before .before .before .before .before .before .before .is-record .ensures) ∙ c .before .before .before .before .before .before .before .before .if1 .taken) in (
-      rw (← c .before .before .before .before .before .before .before .before .before .is-record .ensures, c .before .before .before .before .before .before .before .before .if1 .taken, ← e, ← c .before .before .before .before .before .set-in .ensures, ← c .before .before .before .before .dma-read .ensures) (c .before .before .finish .ensures .0),
-      (
-        rw (← c .before .before .before .before .before .before .before .before .before .is-record .ensures, c .before .before .before .before .before .before .before .before .if1 .taken, ← e, ← c .before .before .before .before .before .set-in .ensures, ← c .before .before .before .before .dma-read .ensures) (c .before .before .finish .ensures .1 .0),
-        rw (← e, ← c .before .before .before .before .before .set-in .ensures, ← c .before .before .before .before .dma-read .ensures) (c .before .before .finish .ensures .1 .1),
-      ),
-    )
-
--- src/calls.rt:116:1
-same-length-2 : tie.Need-same-length-2
-same-length-2 c = search needs
-
--- src/calls.rt:116:1
-returns-2 : tie.Need-returns-2
-unfolding wordFrom bytesFrom
-returns-2 c = (
-  rw (← c .before .is-record .ensures, c .if1 .left),
-  (rw (← c .before .is-record .ensures, c .if1 .left), λ h g. absurd (true≢false (sym h ∙ sym (c .before .is-record .ensures) ∙ c .if1 .left))),
-)
 
 pub bel-dma-read-spec : {M : Type 1} → statement M
+unfolding wordFrom bytesFrom
 bel-dma-read-spec =
     tie.close
     (tie.spec
-    is-record-requires
-    load-requires
-    set-in-requires
-    dma-read-requires
-    finish-requires
-    same-length
-    returns
-    same-length-2
-    returns-2)
+    (λ c κs. search needs) (λ c κs. search needs) (λ c κs. search needs) (λ c κs. search needs)
+    (λ c κs. search needs) (λ c. search needs)
+    (λ c.
+    let at-finish = c .before .before in
+    let at-dma-read = at-finish .before .before in
+    let at-set-in = at-dma-read .before in
+    let at-load = at-set-in .before in
+    let at-if1 = at-load .before .before in
+    let at-is-record = at-if1 .before in
+    let e =
+    at-load .load .ensures ∙ record-loaded _ (sym (at-is-record .is-record .ensures) ∙ at-if1 .if1 .taken) in (
+      rw (
+        ← at-is-record .is-record .ensures,
+        at-if1 .if1 .taken,
+        ← e,
+        ← at-set-in .set-in .ensures,
+        ← at-dma-read .dma-read .ensures,
+      ) (at-finish .finish .ensures .0),
+      (
+        rw (
+          ← at-is-record .is-record .ensures,
+          at-if1 .if1 .taken,
+          ← e,
+          ← at-set-in .set-in .ensures,
+          ← at-dma-read .dma-read .ensures,
+        ) (at-finish .finish .ensures .1 .0),
+        rw (← e, ← at-set-in .set-in .ensures, ← at-dma-read .dma-read .ensures) (at-finish .finish .ensures .1 .1),
+      ),
+    ))
+    (λ c. search needs)
+    (λ c. (
+      rw (← c .before .is-record .ensures, c .if1 .left),
+      (
+        rw (← c .before .is-record .ensures, c .if1 .left),
+        λ h g. absurd (true≢false (sym h ∙ sym (c .before .is-record .ensures) ∙ c .if1 .left)),
+      ),
+    )))

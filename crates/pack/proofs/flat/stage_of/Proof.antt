@@ -1,39 +1,25 @@
+-- `pack::flat::stage_of` meets its contract.
+-- Assumes nothing.
 use borrow.Author.Tests.{ne-eqb}
 use Rattle.pack.specs.Flat.{stageOf}
 use Rattle.pack.proofs.flat.stage_of.Statement.{statement}
 use Rattle.pack.proofs.flat.stage_of.Tie as tie
-use Rattle.pack.proofs.flat.stage_of.Reads as reads
-use Rattle.pack.proofs.flat.stage_of.Lts as lts
-
--- src/flat.rt:296:1
-returns : tie.Need-returns
-unfolding stageOf
-returns c = rw (c .match .keys1)
-
--- src/flat.rt:296:1
-returns-2 : tie.Need-returns-2
-unfolding stageOf
-returns-2 c = rw (c .match .keys2)
-
--- src/flat.rt:296:1
-returns-3 : tie.Need-returns-3
-unfolding stageOf
-returns-3 c = rw (c .match .keys3)
-
--- src/flat.rt:296:1
-returns-4 : tie.Need-returns-4
-unfolding stageOf
-returns-4 c = rw (c .match .keys4)
-
--- src/flat.rt:296:1
-returns-5 : tie.Need-returns-5
-unfolding stageOf
-returns-5 c = rw (c .match .keys5)
-
--- src/flat.rt:296:1
-returns-6 : tie.Need-returns-6
-unfolding stageOf
-returns-6 c = rw (ne-eqb _ _ (c .match .rest .1), ne-eqb _ _ (c .match .rest .0 .1), ne-eqb _ _ (c .match .rest .0 .0 .1), ne-eqb _ _ (c .match .rest .0 .0 .0 .1), ne-eqb _ _ (c .match .rest .0 .0 .0 .0 .1))
 
 pub stage-of-spec : {M : Type 1} → statement M
-stage-of-spec = tie.close (tie.spec returns returns-2 returns-3 returns-4 returns-5 returns-6)
+unfolding stageOf
+stage-of-spec =
+    tie.close
+    (tie.spec
+    (λ c. rw (c .match .keys1))
+    (λ c. rw (c .match .keys2))
+    (λ c. rw (c .match .keys3))
+    (λ c. rw (c .match .keys4))
+    (λ c. rw (c .match .keys5))
+    (λ c.
+    rw (
+      ne-eqb _ _ (c .match .rest .1),
+      ne-eqb _ _ (c .match .rest .0 .1),
+      ne-eqb _ _ (c .match .rest .0 .0 .1),
+      ne-eqb _ _ (c .match .rest .0 .0 .0 .1),
+      ne-eqb _ _ (c .match .rest .0 .0 .0 .0 .1),
+    )))

@@ -1,52 +1,29 @@
+-- `pack::put::put_flat` meets its contract.
+-- Assumes nothing.
 use Rattle.pack.specs.Bytes.{flatPut}
 use borrow.Author.Needs.{needs}
 use Rattle.pack.proofs.put.put_flat.Statement.{statement}
 use Rattle.pack.proofs.put.put_flat.Tie as tie
-use Rattle.pack.proofs.put.put_flat.Reads as reads
-use Rattle.pack.proofs.put.put_flat.Lts as lts
-use Rattle.pack.proofs.put.put_head.Reads as put-head-reads
-use Rattle.pack.proofs.put.put_plan.Reads as put-plan-reads
-use Rattle.pack.proofs.put.put_site.Reads as put-site-reads
-use Rattle.pack.proofs.put.put_spot.Reads as put-spot-reads
-use Rattle.pack.proofs.put.put_task.Reads as put-task-reads
-
--- src/put.rt:222:5
-put-head-requires : tie.Need-put-head-requires
-put-head-requires c κs = search needs
-
--- src/put.rt:223:5
-put-site-requires : tie.Need-put-site-requires
-put-site-requires c κs = search needs
-
--- src/put.rt:224:5
-put-task-requires : tie.Need-put-task-requires
-put-task-requires c κs = search needs
-
--- src/put.rt:225:5
-put-plan-requires : tie.Need-put-plan-requires
-put-plan-requires c κs = search needs
-
--- src/put.rt:226:5
-put-spot-requires : tie.Need-put-spot-requires
-put-spot-requires c κs = search needs
-
--- src/put.rt:214:1
-same-length : tie.Need-same-length
-same-length c = search needs
-
--- src/put.rt:214:1
-returns : tie.Need-returns
-unfolding flatPut
-returns c = (rw (c .before .before .put-spot .ensures .0, c .before .before .before .before .before .before .put-plan .ensures, c .before .before .before .before .before .before .before .before .before .before .put-task .ensures, c .before .before .before .before .before .before .before .before .before .before .before .before .before .before .put-site .ensures, c .before .before .before .before .before .before .before .before .before .before .before .before .before .before .before .before .before .before .put-head .ensures), c .before .before .put-spot .ensures .1)
 
 pub put-flat-spec : {M : Type 1} → statement M
+unfolding flatPut
 put-flat-spec =
     tie.close
     (tie.spec
-    put-head-requires
-    put-site-requires
-    put-task-requires
-    put-plan-requires
-    put-spot-requires
-    same-length
-    returns)
+    (λ c κs. search needs) (λ c κs. search needs) (λ c κs. search needs) (λ c κs. search needs)
+    (λ c κs. search needs) (λ c. search needs)
+    (λ c.
+    let at-put-spot = c .before .before in
+    let at-put-plan = at-put-spot .before .before .before .before in
+    let at-put-task = at-put-plan .before .before .before .before in
+    let at-put-site = at-put-task .before .before .before .before in
+    let at-put-head = at-put-site .before .before .before .before in (
+      rw (
+        at-put-spot .put-spot .ensures .0,
+        at-put-plan .put-plan .ensures,
+        at-put-task .put-task .ensures,
+        at-put-site .put-site .ensures,
+        at-put-head .put-head .ensures,
+      ),
+      at-put-spot .put-spot .ensures .1,
+    )))

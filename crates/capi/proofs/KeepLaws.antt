@@ -1,0 +1,73 @@
+-- A refusal leaves the bytes as they were; many ticks of a record reached from power-on are never refused.
+-- Assumes nothing.
+use Prim.Native.Nat.{ℕ, zero, suc}
+use mathlib.Core.Bool.{Bool, true, false, cond}
+use mathlib.Core.List.{List}
+use mathlib.Core.Path.{_≡_, refl}
+use lib.Dec.{eqb}
+use borrow.Author.Tests.{ne-eqb, eq-eqb}
+use Rattle.image.proofs.TestLaws.{by-test}
+use Rattle.fdc.specs.declared.answer.Answer.{Answer}
+use Rattle.fdc.specs.declared.answer.Reply.the-variants.{Done}
+use Rattle.fdc.specs.declared.record.Controller.{Controller}
+use Rattle.fdc.specs.Answer.{numberIn, answerOf}
+use Rattle.fdc.specs.Record.{validOf}
+use Rattle.fdc.specs.Runs.{ticks, answerTo, Reached}
+use Rattle.fdc.specs.Ticks.{tickOf}
+use Rattle.fdc.proofs.GoodLaws.{Good, good-valid, good-after, good-reached}
+use Rattle.pack.specs.Bytes.{isRecord}
+use Rattle.capi.specs.Calls.{writtenOf, wordFrom, bytesFrom}
+use Rattle.capi.specs.Run.{Ran, ranOf, ticked, changedIn, runOf, startOf, refusedOf, ticksOf}
+use Rattle.capi.specs.Word.{noRecord}
+
+-- 01 Refusals: the record as handed in
+pub refusal-keeps-bytes : (l : List ℕ) (answer : Answer) → (numberIn (answer .reply) ≡ 0 → ⊥) → bytesFrom l answer ≡ l
+unfolding bytesFrom writtenOf
+refusal-keeps-bytes l answer refused = rw (ne-eqb (numberIn (answer .reply)) 0 refused) (go (isRecord l))
+  where
+    go : (t : Bool) → cond t l l ≡ l
+    go true = refl
+    go false = refl
+
+-- house: bytes that are no record get refusal 4 with both lines off, and stay
+pub no-record-refused : (l : List ℕ) (answer : Answer) → isRecord l ≡ false
+    → (wordFrom l answer ≡ noRecord) × (bytesFrom l answer ≡ l)
+unfolding wordFrom bytesFrom
+no-record-refused l answer h = (rw h, rw h)
+
+-- a record that calls can leave, with a reply that is no refusal
+record Sound (answer : Answer) : Type 0 where
+  good : Good (answer .controller)
+  done : numberIn (answer .reply) ≡ 0
+
+ticked-sound : (r : Ran) → Sound (r .answer) → Sound (ticked r .answer)
+unfolding ticked answerTo tickOf answerOf
+ticked-sound r s =
+    record {
+      good = good-after (ticks (r .first) (r .second)) (r .answer .controller) (s .good);
+      done = rw (good-valid (r .answer .controller) (s .good));
+    }
+
+run-sound : (n : ℕ) (r : Ran) → Sound (r .answer) → Sound (runOf n r .answer)
+unfolding runOf
+run-sound zero r s = s
+run-sound (suc n) r s =
+    by-test (changedIn (r .answer) (ticked r .answer)) (λ (x : Ran). Sound (x .answer)) (ticked r) (runOf n (ticked r))
+    (λ _. ticked-sound r s) (λ _. run-sound n (ticked r) (ticked-sound r s))
+
+-- 01 Refusals: no record reached from power-on by calls earns 4, so many ticks of it are all made
+pub ticks-never-4 : (n : ℕ) (a b : List ℕ) (c : Controller) → Reached c
+    → numberIn (ticksOf n a b c .answer .reply) ≡ 0
+unfolding ticksOf answerOf
+ticks-never-4 n a b c reached =
+    let g : Good c = good-reached c reached in
+    rw (good-valid c g) (run-sound n (startOf a b c) (record { good = g; done = refl }) .done)
+
+-- house: one tick at a time or many, the same
+pub ticks-one : (r : Ran) → runOf 1 r ≡ ticked r
+unfolding runOf
+ticks-one r = go (changedIn (r .answer) (ticked r .answer))
+  where
+    go : (t : Bool) → cond t (ticked r) (ticked r) ≡ ticked r
+    go true = refl
+    go false = refl
