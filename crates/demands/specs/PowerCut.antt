@@ -128,7 +128,7 @@ pub record LeftBy (g : Geometry) (cylinder : ℕ) (transfer : Transfer) (aim : A
 abbrev pub headOf : Order → Controller → ℕ
 headOf order c = driveAt (order .drive) (c .drives) .head
 
--- Demand 3. It asks neither for a sound image nor for one without protection: a protected one is left as it was
+-- Demand 3. It asks neither for a sound image nor for one without protection
 abbrev pub PowerCut : Type 0
 PowerCut =
     (c : Controller) (order : Order) (transfer : Transfer) (id : Id) → Writes c order transfer id
