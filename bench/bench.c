@@ -1,7 +1,7 @@
 /* Whole images read, written and formatted by DMA, on the library and on the model, by one and the same host: seek, then
  * each cylinder in one command (MT where there are two sides; Format by tracks), TC with the last byte; FIFO on, threshold 8.
- * Both are compiled with the same flags. Time is the processor's, the best of a few runs; DMA cycles and port accesses are
- * in it: a read or write has a cycle for each tick, a format has few. */
+ * The library is as the kit compiles it; the model and this host have the flags of tests/cc. Time is the processor's, the
+ * best of a few runs; DMA cycles and port accesses are in it: a read or write has a cycle for each tick, a format few. */
 #include <stdbool.h>
 #include <stdio.h>
 #include <stdlib.h>
