@@ -6,7 +6,8 @@ CALLS ?= 10000000
 SEED ?= 1
 
 demo:
-	rt check replay >/dev/null
+	@echo "proving and building replay, some minutes the first time"
+	@rt check replay >/dev/null
 	@demo/run
 
 test:

@@ -77,15 +77,20 @@ static uint32_t wait_line(void) {
   }
 }
 
+/* until DRQ is on; with no tick to make bel_ticks tells the lines as they stand */
+static void wait_request(void) {
+  uint32_t word = BEL_LAST(bel_ticks(record, sizeof record, image, sizeof image, none, 0, 0));
+  if (!BEL_DRQ(word)) word = wait_line();
+  CHECK(BEL_DRQ(word));
+}
+
 static void read_sector(uint8_t r, uint8_t *to) {
   const uint8_t bytes[9] = {0x46, 0, 0, 0, r, 1, r, 0x1B, 0xFF};
   uint8_t result[7];
   command(bytes, 9);
   for (int i = 0; i < SECTOR; i++) {
-    uint32_t word = bel_ticks(record, sizeof record, image, sizeof image, none, 0, 0) & 0xFFFFFFFFu;
-    if (!BEL_DRQ(word)) word = wait_line();
-    CHECK(BEL_DRQ(word));
-    word = bel_dma_read(record, sizeof record, i == SECTOR - 1);
+    wait_request();
+    const uint32_t word = bel_dma_read(record, sizeof record, i == SECTOR - 1);
     CHECK(BEL_REFUSAL(word) == 0);
     to[i] = BEL_VALUE(word);
   }
@@ -100,10 +105,8 @@ static void write_sector(uint8_t r, const uint8_t *from) {
   uint8_t result[7];
   command(bytes, 9);
   for (int i = 0; i < SECTOR; i++) {
-    uint32_t word = bel_ticks(record, sizeof record, image, sizeof image, none, 0, 0) & 0xFFFFFFFFu;
-    if (!BEL_DRQ(word)) word = wait_line();
-    CHECK(BEL_DRQ(word));
-    word = bel_dma_write(record, sizeof record, from[i], i == SECTOR - 1);
+    wait_request();
+    const uint32_t word = bel_dma_write(record, sizeof record, from[i], i == SECTOR - 1);
     CHECK(BEL_REFUSAL(word) == 0);
   }
   CHECK(BEL_INT(wait_line()));

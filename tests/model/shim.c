@@ -63,65 +63,36 @@ uint32_t bel_power_on(uint8_t *record, size_t len, uint8_t head0, uint8_t head1)
     return word;
 }
 
-uint32_t bel_read_port(uint8_t *record, size_t len, uint8_t offset)
-{
-    struct model m;
-    if (!load(&m, record, len))
-        return NO_RECORD;
-    uint32_t word = model_read_port(&m, offset);
-    store(&m, record);
-    return word;
-}
+/* a call on the record lent: read, answered by the model, written back */
+#define ANSWERED(answer)            \
+    struct model m;                 \
+    if (!load(&m, record, len))     \
+        return NO_RECORD;           \
+    uint32_t word = (answer);       \
+    store(&m, record);              \
+    return word
+
+uint32_t bel_read_port(uint8_t *record, size_t len, uint8_t offset) { ANSWERED(model_read_port(&m, offset)); }
 
 uint32_t bel_write_port(uint8_t *record, size_t len, uint8_t offset, uint8_t byte)
 {
-    struct model m;
-    if (!load(&m, record, len))
-        return NO_RECORD;
-    uint32_t word = model_write_port(&m, offset, byte);
-    store(&m, record);
-    return word;
+    ANSWERED(model_write_port(&m, offset, byte));
 }
 
-uint32_t bel_dma_read(uint8_t *record, size_t len, uint8_t tc)
-{
-    struct model m;
-    if (!load(&m, record, len))
-        return NO_RECORD;
-    uint32_t word = model_dma_read(&m, tc != 0);
-    store(&m, record);
-    return word;
-}
+uint32_t bel_dma_read(uint8_t *record, size_t len, uint8_t tc) { ANSWERED(model_dma_read(&m, tc != 0)); }
 
 uint32_t bel_dma_write(uint8_t *record, size_t len, uint8_t byte, uint8_t tc)
 {
-    struct model m;
-    if (!load(&m, record, len))
-        return NO_RECORD;
-    uint32_t word = model_dma_write(&m, byte, tc != 0);
-    store(&m, record);
-    return word;
+    ANSWERED(model_dma_write(&m, byte, tc != 0));
 }
 
 uint32_t bel_tick(uint8_t *record, size_t len, uint8_t *image0, size_t len0, uint8_t *image1, size_t len1)
 {
-    struct model m;
-    if (!load(&m, record, len))
-        return NO_RECORD;
-    uint32_t word = model_tick(&m, (struct image){ image0, len0 }, (struct image){ image1, len1 });
-    store(&m, record);
-    return word;
+    struct image lent[2] = { { image0, len0 }, { image1, len1 } };
+    ANSWERED(model_tick(&m, lent[0], lent[1]));
 }
 
-uint32_t bel_note_change(uint8_t *record, size_t len, uint8_t drive)
-{
-    struct model m;
-    if (!load(&m, record, len))
-        return NO_RECORD;
-    uint32_t word = model_note_change(&m, drive);
-    store(&m, record);
-    return word;
-}
+uint32_t bel_note_change(uint8_t *record, size_t len, uint8_t drive) { ANSWERED(model_note_change(&m, drive)); }
 
 uint64_t bel_ticks(uint8_t *record, size_t len, uint8_t *image0, size_t len0, uint8_t *image1, size_t len1, uint32_t n)
 {

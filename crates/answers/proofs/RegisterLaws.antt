@@ -155,12 +155,6 @@ either : (a b : Bool) → (a || b) ≡ true → (a ≡ true) ⊎ (b ≡ true)
 either true b e = inl refl
 either false b e = inr e
 
-left-of : (a b : Bool) → a ≡ true → (a || b) ≡ true
-left-of a b e = rw e
-
-right-of : (a b : Bool) → b ≡ true → (a || b) ≡ true
-right-of a b e = simp (e, or-true)
-
 pass-asks : (p : Pass) (asks : Bool) → flowAsks (passFlow p) asks ≡ asks
 pass-asks Read asks = refl
 pass-asks Write asks = refl

@@ -4,20 +4,17 @@ use Prim.Native.Nat.{ℕ, zero, suc}
 use mathlib.Core.Bool.{Bool, true, false, cond}
 use mathlib.Core.List.{List}
 use mathlib.Core.Path.{_≡_, refl}
-use lib.Dec.{eqb}
-use borrow.Author.Tests.{ne-eqb, eq-eqb}
+use borrow.Author.Tests.{ne-eqb}
 use Rattle.image.proofs.TestLaws.{by-test}
 use Rattle.fdc.specs.declared.answer.Answer.{Answer}
-use Rattle.fdc.specs.declared.answer.Reply.the-variants.{Done}
 use Rattle.fdc.specs.declared.record.Controller.{Controller}
 use Rattle.fdc.specs.Answer.{numberIn, answerOf}
-use Rattle.fdc.specs.Record.{validOf}
 use Rattle.fdc.specs.Runs.{ticks, answerTo, Reached}
 use Rattle.fdc.specs.Ticks.{tickOf}
 use Rattle.fdc.proofs.GoodLaws.{Good, good-valid, good-after, good-reached}
 use Rattle.pack.specs.Bytes.{isRecord}
 use Rattle.capi.specs.Calls.{writtenOf, wordFrom, bytesFrom}
-use Rattle.capi.specs.Run.{Ran, ranOf, ticked, changedIn, runOf, startOf, refusedOf, ticksOf}
+use Rattle.capi.specs.Run.{Ran, ticked, changedIn, runOf, startOf, ticksOf}
 use Rattle.capi.specs.Word.{noRecord}
 
 -- 01 Refusals: the record as handed in

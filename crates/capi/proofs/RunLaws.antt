@@ -1,7 +1,7 @@
 -- Many ticks, one at a time.
 -- Assumes nothing.
 use Prim.Native.Nat.{ℕ, suc, _+_, _-_, _≤_, _<_}
-use mathlib.Core.Bool.{Bool, true, false, cond}
+use mathlib.Core.Bool.{true, false, cond}
 use mathlib.Core.List.{List}
 use mathlib.Core.Path.{_≡_, refl, sym, ap, _∙_}
 use native.Mathlib.Omega.{arith}
@@ -13,7 +13,7 @@ use Rattle.fdc.specs.Ticks.{tickOf, imageAfter, ruledOf}
 use Rattle.image.specs.Lent.{storedIn}
 use Rattle.image.proofs.StoreLaws.{effect-length}
 use Rattle.image.proofs.TestLaws.{by-test}
-use Rattle.capi.specs.Run.{Ran, ranOf, ticked, changed, changedIn, runOf}
+use Rattle.capi.specs.Run.{Ran, ranOf, ticked, changedIn, runOf}
 
 -- a tick keeps an image's length
 pub image-length : (k : ℕ) (a b : List ℕ) (c : Controller) (img : List ℕ) → length (imageAfter k a b c img) ≡ length img

@@ -7,12 +7,11 @@ use mathlib.Core.Path.{_≡_}
 use lib.Dec.{eqb, leb}
 use lib.ListN.{length}
 use Rattle.fdc.specs.declared.answer.Answer.{Answer}
-use Rattle.fdc.specs.declared.record.Controller.{Controller}
 use Rattle.fdc.specs.Answer.{numberIn}
 use Rattle.fdc.specs.Ticks.{imageAfter}
 use Rattle.pack.specs.Back.{Holds}
 use Rattle.pack.specs.Bytes.{recordSize, recordIn, isRecord, storedOf}
-use Rattle.capi.specs.Run.{Ran, ticksOf}
+use Rattle.capi.specs.Run.{ticksOf}
 use Rattle.capi.specs.Word.{noRecord, wordOf, longOf}
 
 -- a byte for a flag

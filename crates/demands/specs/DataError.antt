@@ -2,7 +2,7 @@
 -- image as the cut left it, from any record reached after any power-on, the head there and the motor on.
 -- Assumes nothing.
 use Prim.Native.Nat.{ℕ, _≤_}
-use mathlib.Core.Bool.{true, false}
+use mathlib.Core.Bool.{true}
 use mathlib.Core.List.{List, [], _∷_}
 use mathlib.Core.Logic.{_⊎_}
 use mathlib.Core.Path.{_≡_}
@@ -11,10 +11,8 @@ use Rattle.sectors.specs.declared.order.Job.the-variants.{Move}
 use Rattle.sectors.specs.declared.order.Order.{Order}
 use Rattle.sectors.specs.declared.order.Pass.the-variants.{Read}
 use Rattle.sectors.specs.declared.order.Transfer.{Transfer}
-use Rattle.image.specs.declared.disk.Disk.the-variants.{Present}
 use Rattle.image.specs.declared.layout.Geometry.{Geometry}
 use Rattle.image.specs.declared.slot.Id.{Id}
-use Rattle.image.specs.Disk.{diskIn}
 use Rattle.image.specs.Layout.{offsetOf, Has}
 use Rattle.image.specs.Slot.{idAt}
 use Rattle.image.specs.Sound.{Sound}

@@ -2,14 +2,11 @@
 -- 0 or 1, a case its number, and what a case does not carry is 0. A phase's fields are Flat.
 -- Assumes nothing.
 use Prim.Native.Nat.{ℕ, _+_, _*_, _/_, _%_}
-use mathlib.Core.Bool.{Bool, true, false, _&&_, cond}
+use mathlib.Core.Bool.{Bool, false, _&&_, cond}
 use mathlib.Core.List.{List, [], _∷_, _++_}
 use lib.Dec.{eqb, leb}
 use lib.ListN.{length, getD, drop}
 use lib.Seq.{sets}
-use Rattle.image.specs.declared.layout.Geometry.{Geometry}
-use Rattle.image.specs.declared.slot.Id.{Id}
-use Rattle.chip.specs.declared.codes.Entry.{Entry}
 use Rattle.chip.specs.declared.fifo.Fifo.{Fifo}
 use Rattle.chip.specs.Commands.{kindNumber, kindNumbered}
 use Rattle.drive.specs.declared.Drive.{Drive}
@@ -18,7 +15,6 @@ use Rattle.drive.specs.declared.Motion.the-variants.{Still, Seeking, Recalibrat
 use Rattle.sectors.specs.declared.order.Pass.{Pass}
 use Rattle.sectors.specs.declared.order.Pass.the-variants.{Read, Write}
 use Rattle.sectors.specs.declared.order.Plan.{Plan}
-use Rattle.sectors.specs.declared.order.Transfer.{Transfer}
 use Rattle.sectors.specs.declared.work.Site.{Site}
 use Rattle.sectors.specs.declared.work.Task.{Task}
 use Rattle.fdc.specs.declared.record.Bytes.{Bytes}
