@@ -1,4 +1,4 @@
--- `capi::run::run` meets its contract. The loop's invariant: the ticks left, made from where the loop stands, end
+-- `ticks::run::run` meets its contract. The loop's invariant: the ticks left, made from where the loop stands, end
 -- where all of them end from the start. The measure is the ticks left.
 -- Assumes nothing.
 use Prim.Native.Nat.{_≤_, _-_}
@@ -6,29 +6,27 @@ use native.Mathlib.Omega.{arith}
 use mathlib.Core.Path.{_≡_, refl, sym, ap, _∙_}
 use lib.ListN.{length}
 use borrow.Author.Needs.{needs}
-use Rattle.capi.specs.Run.{Ran, ranOf, runOf}
-use Rattle.capi.proofs.RunLaws.{image-length, finished, goes-on, stops, parts}
-use Rattle.capi.proofs.run.run.Statement.{statement}
-use Rattle.capi.proofs.run.run.Tie as tie
+use Rattle.ticks.specs.Run.{Ran, ranOf, runOf}
+use Rattle.ticks.proofs.RunLaws.{image-length, finished, goes-on, stops, parts}
+use Rattle.ticks.proofs.run.run.Statement.{statement}
+use Rattle.ticks.proofs.run.run.Tie as tie
 
 abbrev Inv-loop : tie.InvT-loop
-Inv-loop a₀ b₀ n answer₀ left₀ a b answer left =
+Inv-loop a₀ b₀ n rest answer₀ left₀ a b answer left =
     (left ≤ n)
     × (length a ≡ length a₀)
     × (length b ≡ length b₀)
-    × (runOf n (ranOf answer₀ 0 a₀ b₀) ≡ runOf left (ranOf answer (n - left) a b))
+    × (runOf rest (ranOf answer₀ (n - rest) a₀ b₀) ≡ runOf left (ranOf answer (n - left) a b))
 
 abbrev μ-loop : tie.MeasureT-loop
-μ-loop a₀ b₀ n answer₀ left₀ a b answer left = left
+μ-loop a₀ b₀ n rest answer₀ left₀ a b answer left = left
 
 answer-requires : tie.Need-answer-requires Inv-loop μ-loop
 answer-requires c κs = search needs
 
 loop-holds : tie.Need-loop-holds Inv-loop μ-loop
 loop-holds c =
-    let n = c .before .before .before .args .n in
-    let e : n - n ≡ 0 = omega arith in
-    (omega arith, refl, refl, rw e)
+    (search needs, refl, refl, refl)
 
 tick-requires : tie.Need-tick-requires Inv-loop μ-loop
 tick-requires c κs = search needs
@@ -39,8 +37,8 @@ differ-requires c κs = search needs
 sub-left : tie.Need-sub-left Inv-loop μ-loop
 sub-left c = search needs
 
-sub-t16 : tie.Need-sub-t16 Inv-loop μ-loop
-sub-t16 c = search needs
+sub-t17 : tie.Need-sub-t17 Inv-loop μ-loop
+sub-t17 c = search needs
 
 same-length : tie.Need-same-length Inv-loop μ-loop
 same-length c = search needs
@@ -61,7 +59,8 @@ returns c =
     (parts
     (stops (args .n) (loop .left) (loop .answer) (tick .result) (loop .a) (loop .b) (tick .last .1 .0)
     (tick .last .1 .1 .0)
-    (runOf (args .n) (ranOf (at-answer .answer .result) 0 (args .a .now) (args .b .now)))
+    (runOf (args .rest)
+    (ranOf (at-answer .answer .result) (args .n - args .rest) (args .a .now) (args .b .now)))
     (at-test .loop-test .taken) (loop .inv .0) (loop .inv .3) (tick .ensures .0) (tick .ensures .1 .0)
     (tick .ensures .1 .1) (sym (c .before .differ .ensures) ∙ c .if1 .taken)))
 
@@ -83,7 +82,8 @@ loop-again c =
           ∙ loop .inv .2,
       goes-on (args .n) (loop .left) (loop .answer) (tick .result) (loop .a) (loop .b) (tick .last .1 .0)
           (tick .last .1 .1 .0)
-          (runOf (args .n) (ranOf (at-answer .answer .result) 0 (args .a .now) (args .b .now)))
+          (runOf (args .rest)
+    (ranOf (at-answer .answer .result) (args .n - args .rest) (args .a .now) (args .b .now)))
           (at-test .loop-test .taken) (loop .inv .0) (loop .inv .3) (tick .ensures .0) (tick .ensures .1 .0)
           (tick .ensures .1 .1) (sym (c .before .differ .ensures) ∙ c .if1 .left),
     )
@@ -103,7 +103,8 @@ returns-2 c =
     rw (← at-answer .answer .ensures)
     (parts
     (finished (args .n) (loop .left) (loop .answer) (loop .a) (loop .b)
-    (runOf (args .n) (ranOf (at-answer .answer .result) 0 (args .a .now) (args .b .now))) (c .loop-test .left)
+    (runOf (args .rest)
+    (ranOf (at-answer .answer .result) (args .n - args .rest) (args .a .now) (args .b .now))) (c .loop-test .left)
     (loop .inv .3)))
 
 pub run-spec : {M : Type 1} → statement M
@@ -117,7 +118,7 @@ run-spec =
     tick-requires
     differ-requires
     sub-left
-    sub-t16
+    sub-t17
     same-length
     same-length-2
     returns

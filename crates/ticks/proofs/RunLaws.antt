@@ -13,7 +13,7 @@ use Rattle.fdc.specs.Ticks.{tickOf, imageAfter, ruledOf}
 use Rattle.image.specs.Lent.{storedIn}
 use Rattle.image.proofs.StoreLaws.{effect-length}
 use Rattle.image.proofs.TestLaws.{by-test}
-use Rattle.capi.specs.Run.{Ran, ranOf, ticked, changedIn, runOf}
+use Rattle.ticks.specs.Run.{Ran, ranOf, ticked, changedIn, runOf}
 
 -- a tick keeps an image's length
 pub image-length : (k : ℕ) (a b : List ℕ) (c : Controller) (img : List ℕ) → length (imageAfter k a b c img) ≡ length img

@@ -42,6 +42,10 @@ unfoldable pub runOf : ℕ → Ran → Ran
 runOf zero r = r
 runOf (suc n) r = cond (changedIn (r .answer) (ticked r .answer)) (ticked r) (runOf n (ticked r))
 
+-- of the ticks before r only the last may have changed a line; then those left
+abbrev pub onwardOf : Answer → ℕ → Ran → Ran
+onwardOf before left r = cond (changedIn before (r .answer)) r (runOf left r)
+
 -- before the first tick: value 0 and the record's lines
 abbrev pub startOf : List ℕ → List ℕ → Controller → Ran
 startOf a b c = ranOf (answerOf Done c) 0 a b
