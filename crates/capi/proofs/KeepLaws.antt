@@ -4,6 +4,7 @@ use Prim.Native.Nat.{ℕ, zero, suc}
 use mathlib.Core.Bool.{Bool, true, false, cond}
 use mathlib.Core.List.{List}
 use mathlib.Core.Path.{_≡_, refl}
+use lib.Dec.{eqb}
 use borrow.Author.Tests.{ne-eqb}
 use Rattle.image.proofs.TestLaws.{by-test}
 use Rattle.fdc.specs.declared.answer.Answer.{Answer}
@@ -13,24 +14,27 @@ use Rattle.fdc.specs.Runs.{ticks, answerTo, Reached}
 use Rattle.fdc.specs.Ticks.{tickOf}
 use Rattle.fdc.proofs.GoodLaws.{Good, good-valid, good-after, good-reached}
 use Rattle.pack.specs.Bytes.{isRecord}
-use Rattle.capi.specs.Calls.{writtenOf, wordFrom, bytesFrom}
+use Rattle.capi.specs.Calls.{writtenOf, wordFrom, bytesFrom, cycledOf, cycleFrom}
 use Rattle.capi.specs.Run.{Ran, ticked, changedIn, runOf, startOf, ticksOf}
 use Rattle.capi.specs.Word.{noRecord}
 
+same-both : (t : Bool) (l : List ℕ) → cond t l l ≡ l
+same-both true l = refl
+same-both false l = refl
+
 -- 01 Refusals: the record as handed in
-pub refusal-keeps-bytes : (l : List ℕ) (answer : Answer) → (numberIn (answer .reply) ≡ 0 → ⊥) → bytesFrom l answer ≡ l
-unfolding bytesFrom writtenOf
-refusal-keeps-bytes l answer refused = rw (ne-eqb (numberIn (answer .reply)) 0 refused) (go (isRecord l))
-  where
-    go : (t : Bool) → cond t l l ≡ l
-    go true = refl
-    go false = refl
+pub refusal-keeps-bytes : (l : List ℕ) (answer : Answer) → (numberIn (answer .reply) ≡ 0 → ⊥)
+    → (bytesFrom l answer ≡ l) × (cycleFrom l answer ≡ l)
+unfolding bytesFrom writtenOf cycleFrom cycledOf
+refusal-keeps-bytes l answer refused =
+    let e : eqb (numberIn (answer .reply)) 0 ≡ false = ne-eqb (numberIn (answer .reply)) 0 refused in
+    (rw e (same-both (isRecord l) l), rw e (same-both (isRecord l) l))
 
 -- house: bytes that are no record get refusal 4 with both lines off, and stay
 pub no-record-refused : (l : List ℕ) (answer : Answer) → isRecord l ≡ false
-    → (wordFrom l answer ≡ noRecord) × (bytesFrom l answer ≡ l)
-unfolding wordFrom bytesFrom
-no-record-refused l answer h = (rw h, rw h)
+    → (wordFrom l answer ≡ noRecord) × ((bytesFrom l answer ≡ l) × (cycleFrom l answer ≡ l))
+unfolding wordFrom bytesFrom cycleFrom
+no-record-refused l answer h = (rw h, (rw h, rw h))
 
 -- a record that calls can leave, with a reply that is no refusal
 record Sound (answer : Answer) : Type 0 where

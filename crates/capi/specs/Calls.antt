@@ -10,7 +10,7 @@ use Rattle.fdc.specs.declared.answer.Answer.{Answer}
 use Rattle.fdc.specs.Answer.{numberIn}
 use Rattle.fdc.specs.Ticks.{imageAfter}
 use Rattle.pack.specs.Back.{Holds}
-use Rattle.pack.specs.Bytes.{recordSize, recordIn, isRecord, storedOf}
+use Rattle.pack.specs.Bytes.{recordSize, recordIn, isRecord, storedOf, fifoStored}
 use Rattle.capi.specs.Run.{ticksOf}
 use Rattle.capi.specs.Word.{noRecord, wordOf, longOf}
 
@@ -28,6 +28,13 @@ wordFrom l answer = cond (isRecord l) (wordOf answer) noRecord
 
 unfoldable pub bytesFrom : List ℕ → Answer → List ℕ
 bytesFrom l answer = cond (isRecord l) (writtenOf answer l) l
+
+-- 01 FIFO: a DMA cycle changes the FIFO alone
+unfoldable pub cycledOf : Answer → List ℕ → List ℕ
+cycledOf answer l = cond (eqb (numberIn (answer .reply)) 0) (fifoStored (answer .controller .fifo) l) l
+
+unfoldable pub cycleFrom : List ℕ → Answer → List ℕ
+cycleFrom l answer = cond (isRecord l) (cycledOf answer l) l
 
 -- reading back what was written is the record: after a call that was not refused the bytes hold the one handed back
 abbrev pub HoldsFrom : List ℕ → Answer → List ℕ → Type 0

@@ -1,25 +1,35 @@
 // The calls of document 01 for firmware, and many ticks at once. No bytes trap: those that are no record are refused.
+use crate::cycle::read_cycle;
+use crate::cycle::write_cycle;
 use crate::run::ticks;
 use crate::word::long_word;
 use crate::word::word;
 use fdc::answer::Answer;
 use fdc::answer::refusal_number;
 use fdc::record::Controller;
+use pack::cycle::reading;
+use pack::cycle::writing;
 use pack::put::store;
+use pack::put::store_fifo;
 use pack::take::is_record;
 use pack::take::load;
+ghost use mathlib.Core.Bool.{true};
 ghost use mathlib.Core.Path.{_≡_};
 ghost use Prim.Native.Nat.{_≤_};
 ghost use lib.ListN.{length};
 ghost use Rattle.fdc.specs.Calls.{powerOn, readPort, writePort, dmaRead, dmaWrite, noteChange};
+ghost use Rattle.fdc.specs.Answer.{numberIn};
+ghost use Rattle.fdc.specs.Record.{withFifo};
 ghost use Rattle.fdc.specs.Ticks.{tickOf};
 ghost use Rattle.pack.specs.Back.{Holds};
-ghost use Rattle.pack.specs.Bytes.{recordSize, recordIn};
+ghost use Rattle.pack.specs.Bytes.{recordSize, recordIn, isRecord};
 ghost use Rattle.capi.specs.Calls.{
   setIn,
   writtenOf,
   wordFrom,
   bytesFrom,
+  cycledOf,
+  cycleFrom,
   HoldsFrom,
   powerWord,
   powerBytes,
@@ -51,6 +61,24 @@ fn finish(s: &mut [u8], answer: Answer) -> u32
     if done {
         let controller = answer.controller;
         store(s, controller);
+        return word(answer);
+    }
+    word(answer)
+}
+
+// After a cycle the FIFO alone is written.
+fn finish_cycle(s: &mut [u8], answer: Answer) -> u32
+    ensures word { λ r. ⌜ r ≡ wordOf answer ⌝ }
+    ensures bytes { λ _. ⌜ now (s .exit) ≡ cycledOf answer (now (s .entry)) ⌝ }
+    ensures back { λ _. ⌜ (isRecord (now (s .entry)) ≡ true → numberIn (answer .reply) ≡ 0
+        → Holds (now (s .exit)) (withFifo (answer .controller .fifo) (recordIn (now (s .entry))))) ⌝ }
+{
+    let reply = answer.reply;
+    let done = refusal_number(reply) == 0;
+    if done {
+        let controller = answer.controller;
+        let fifo = controller.fifo;
+        store_fifo(s, fifo);
         return word(answer);
     }
     word(answer)
@@ -119,14 +147,18 @@ pub extern "C" fn bel_dma_read(s: &mut [u8], tc: u8) -> u32
     ensures word { λ r. ⌜ r
         ≡ wordFrom (now (s .entry)) (dmaRead (setIn tc) (recordIn (now (s .entry)))) ⌝ }
     ensures bytes { λ _. ⌜ now (s .exit)
-        ≡ bytesFrom (now (s .entry)) (dmaRead (setIn tc) (recordIn (now (s .entry)))) ⌝ }
+        ≡ cycleFrom (now (s .entry)) (dmaRead (setIn tc) (recordIn (now (s .entry)))) ⌝ }
     ensures back { λ _. ⌜ HoldsFrom (now (s .entry)) (dmaRead (setIn tc) (recordIn (now (s .entry))))
         (now (s .exit)) ⌝ }
 {
     let good = is_record(s);
     if good {
+        let quick = reading(s);
+        if quick {
+            return read_cycle(s, set_in(tc));
+        }
         let answer = load(s).dma_read(set_in(tc));
-        return finish(s, answer);
+        return finish_cycle(s, answer);
     }
     NO_RECORD
 }
@@ -137,14 +169,18 @@ pub extern "C" fn bel_dma_write(s: &mut [u8], byte: u8, tc: u8) -> u32
     ensures word { λ r. ⌜ r
         ≡ wordFrom (now (s .entry)) (dmaWrite byte (setIn tc) (recordIn (now (s .entry)))) ⌝ }
     ensures bytes { λ _. ⌜ now (s .exit)
-        ≡ bytesFrom (now (s .entry)) (dmaWrite byte (setIn tc) (recordIn (now (s .entry)))) ⌝ }
+        ≡ cycleFrom (now (s .entry)) (dmaWrite byte (setIn tc) (recordIn (now (s .entry)))) ⌝ }
     ensures back { λ _. ⌜ HoldsFrom (now (s .entry)) (dmaWrite byte (setIn tc) (recordIn (now (s .entry))))
         (now (s .exit)) ⌝ }
 {
     let good = is_record(s);
     if good {
+        let quick = writing(s);
+        if quick {
+            return write_cycle(s, byte, set_in(tc));
+        }
         let answer = load(s).dma_write(byte, set_in(tc));
-        return finish(s, answer);
+        return finish_cycle(s, answer);
     }
     NO_RECORD
 }

@@ -15,7 +15,7 @@ fn line(on: bool, weight: u32) -> u32
     if on { weight } else { 0 }
 }
 
-fn word_in(reply: Reply, int: bool, drq: bool) -> u32
+pub fn word_in(reply: Reply, int: bool, drq: bool) -> u32
     ensures { λ r. ⌜ r ≡ wordIn reply int drq ⌝ }
 {
     let v = value(reply) as u32;

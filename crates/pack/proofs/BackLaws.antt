@@ -72,11 +72,11 @@ motion-back (Seeking target steps wait) = refl
 motion-back (Recalibrating steps wait) = refl
 
 -- the n elements from place k on, written out
-abbrev spelt : {A : Type 0} → A → List A → ℕ → ℕ → List A
+abbrev pub spelt : {A : Type 0} → A → List A → ℕ → ℕ → List A
 spelt d l k zero = []
 spelt d l k (suc n) = getD l k d ∷ spelt d l (suc k) n
 
-spelt-part : {A : Type 0} (d : A) (l : List A) (k n : ℕ) → k + n ≤ length l → spelt d l k n ≡ take n (drop k l)
+pub spelt-part : {A : Type 0} (d : A) (l : List A) (k n : ℕ) → k + n ≤ length l → spelt d l k n ≡ take n (drop k l)
 spelt-part d l k zero h = refl
 spelt-part d l k (suc n) h =
     let below : k < length l = omega arith in
@@ -90,7 +90,7 @@ spelt-whole d l n e =
     spelt-part d l 0 n h ∙ take-all n l g
 
 -- bytes from place k on
-abbrev behind : ℕ → List ℕ → List ℕ
+abbrev pub behind : ℕ → List ℕ → List ℕ
 behind k l = replicate k 0 ++ l
 
 registers-back : (r : Registers) → registersIn (registersBytes r) ≡ r
@@ -100,7 +100,7 @@ drive-back : (d : Drive) → courseOf (d .motion) .wait < 0x10000 → driveIn (d
 drive-back d h =
     rw (flag-back (d .changed), flag-back (d .busy), wide-back (courseOf (d .motion) .wait) h, motion-back (d .motion))
 
-fifo-back : (f : Fifo) → length (f .bytes) ≡ 16 → fifoIn (behind 50 (fifoBytes f)) ≡ f
+pub fifo-back : (f : Fifo) → length (f .bytes) ≡ 16 → fifoIn (behind 50 (fifoBytes f)) ≡ f
 fifo-back f h = rw (flag-back (f .asks), flag-back (f .tc), spelt-whole 0 (f .bytes) 16 h)
 
 gathered-back : (b : Bytes) → length (b .command) ≡ 9 → length (b .results) ≡ 7
@@ -160,7 +160,7 @@ read-back c rest t =
       phase-back (c .phase),
     )
 
-flag-within : (flag : Bool) → leb (bitOf flag) 1 ≡ true
+pub flag-within : (flag : Bool) → leb (bitOf flag) 1 ≡ true
 flag-within true = refl
 flag-within false = refl
 

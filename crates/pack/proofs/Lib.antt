@@ -1,3 +1,4 @@
 pub mod BackLaws
+pub mod CycleLaws
 pub mod FlatLaws
 pub mod PutLaws

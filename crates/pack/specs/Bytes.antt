@@ -301,6 +301,10 @@ isRecord l = cond (leb recordSize (length l)) (casesOk l) false
 unfoldable pub storedOf : Controller → List ℕ → List ℕ
 storedOf c l = cond (leb recordSize (length l)) (bytesOf c ++ drop recordSize l) l
 
+-- the FIFO alone written to its places
+unfoldable pub fifoStored : Fifo → List ℕ → List ℕ
+fifoStored f l = cond (leb recordSize (length l)) (sets l 50 (fifoBytes f)) l
+
 -- the record in enough bytes; in too few, one as after power-on
 unfoldable pub loadedOf : List ℕ → Controller
 loadedOf l = cond (leb recordSize (length l)) (recordIn l) (freshOf 0 0)

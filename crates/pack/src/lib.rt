@@ -1,5 +1,6 @@
 // The controller's record in bytes (house): written to bytes that a caller lends, and read back from them.
 mod bytes;
+pub mod cycle;
 mod drives;
 mod flat;
 pub mod put;

@@ -16,11 +16,13 @@ use fdc::record::Registers;
 use sectors::order::Plan;
 use sectors::work::Site;
 use sectors::work::Task;
+ghost use mathlib.Core.Bool.{true};
 ghost use mathlib.Core.Path.{_≡_};
 ghost use Prim.Native.Nat.{_+_, _≤_, _<_};
 ghost use mathlib.Core.List.{_++_};
 ghost use lib.ListN.{length, drop};
 ghost use lib.Seq.{sets};
+ghost use Rattle.fdc.specs.Record.{withFifo};
 ghost use Rattle.pack.specs.Bytes.{
   recordSize,
   registersBytes,
@@ -35,6 +37,9 @@ ghost use Rattle.pack.specs.Bytes.{
   flatPut,
   bytesOf,
   storedOf,
+  fifoStored,
+  recordIn,
+  isRecord,
 };
 ghost use Rattle.pack.specs.Back.{DrivesFit, Typed, Holds};
 
@@ -259,5 +264,17 @@ pub fn store(s: &mut [u8], c: Controller)
     let enough = 124 <= s.len();
     if enough {
         put_record(s, c);
+    }
+}
+
+// The FIFO alone: of a record every other part stays.
+pub fn store_fifo(s: &mut [u8], f: Fifo)
+    ensures stored { λ _. ⌜ now (s .exit) ≡ fifoStored f (now (s .entry)) ⌝ }
+    ensures back { λ _. ⌜ (isRecord (now (s .entry)) ≡ true
+        → Holds (now (s .exit)) (withFifo f (recordIn (now (s .entry))))) ⌝ }
+{
+    let enough = 124 <= s.len();
+    if enough {
+        put_fifo(s, f);
     }
 }

@@ -299,3 +299,14 @@ pub fn load(s: &[u8]) -> Controller
     }
     Controller::new(0, 0)
 }
+
+// The FIFO alone; in too few bytes an empty one.
+pub fn load_fifo(s: &[u8]) -> Fifo
+    ensures { λ r. ⌜ r ≡ loadedOf (now (s .entry)) .fifo ⌝ }
+{
+    let enough = 124 <= s.len();
+    if enough {
+        return fifo_in(s);
+    }
+    Fifo::empty()
+}
