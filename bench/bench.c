@@ -1,7 +1,8 @@
 /* Whole images read, written and formatted by DMA, on the library and on the model, by one and the same host: seek, then
  * each cylinder in one command (MT where there are two sides; Format by tracks), TC with the last byte; FIFO on, threshold 8.
- * The library is as the kit compiles it; the model and this host have the flags of tests/cc. Time is the processor's, the
- * best of a few runs; DMA cycles and port accesses are in it: a read or write has a cycle for each tick, a format few. */
+ * The library is as the kit compiles it, at -O3; the model and this host have -O3 too, by another compiler. Time is the
+ * processor's, the best of a few runs; DMA cycles and port accesses are in it: a read or write has a cycle for each tick, a format few. */
+#include <math.h>
 #include <stdbool.h>
 #include <stdio.h>
 #include <stdlib.h>
@@ -12,7 +13,7 @@
 #include "lent.h"
 #include "model.h"
 
-enum { INT_LINE = 1 << 16, DRQ_LINE = 1 << 17, RUNS = 3 };
+enum { INT_LINE = 1 << 16, DRQ_LINE = 1 << 17, RUNS = 7 };
 
 /* ---- what is measured: the same calls of each ---- */
 
@@ -68,8 +69,9 @@ static void put_tag(uint8_t *at, uint8_t tag, size_t length)
     at[2] = (uint8_t)length;
 }
 
-static void make_image(const struct geometry *g)
+static struct image make_image(const struct geometry *g)
 {
+    struct image image;
     size_t sector = (size_t)128 << g->n, track = 5 + g->slots * (5 + sector);
     const uint8_t header[5] = { g->cylinders, g->sides, g->slots, g->n, 0 };
     image.length = 8 + g->cylinders * g->sides * track + 3;
@@ -92,6 +94,7 @@ static void make_image(const struct geometry *g)
         }
     }
     put_tag(at, 3, 0);
+    return image;
 }
 
 /* ---- the host ---- */
@@ -224,31 +227,29 @@ static void whole_image(struct host *h, const struct geometry *g, enum deed deed
 
 /* ---- measuring ---- */
 
-static double seconds_of(struct host *h, const struct geometry *g, enum deed deed)
+static double seconds_of(struct host *h, struct image on, const struct geometry *g, enum deed deed)
 {
-    double best = 1e9;
-    for (unsigned i = 0; i < RUNS; i++) {
-        h->ticks = h->cycles = h->sum = 0;
-        clock_t from = clock();
-        whole_image(h, g, deed);
-        double seconds = (double)(clock() - from) / CLOCKS_PER_SEC;
-        best = seconds < best ? seconds : best;
-    }
-    return best;
+    image = on;
+    h->ticks = h->cycles = h->sum = 0;
+    clock_t from = clock();
+    whole_image(h, g, deed);
+    return (double)(clock() - from) / CLOCKS_PER_SEC;
 }
 
 static void measure(const struct geometry *g, enum deed deed, bool singly)
 {
     static const char *deeds[3] = { "read", "write", "format" };
     struct host lib = { .box = &library, .singly = singly }, mod = { .box = &reference, .singly = singly };
-    make_image(g);
-    struct image lib_image = image;
-    double lib_seconds = seconds_of(&lib, g, deed);
-    make_image(g);
-    double mod_seconds = seconds_of(&mod, g, deed);
-    if (lib.ticks != mod.ticks || lib.sum != mod.sum || memcmp(image.bytes, lib_image.bytes, image.length) != 0)
+    double lib_seconds = 1e9, mod_seconds = 1e9;
+    struct image lib_image = make_image(g), mod_image = make_image(g);
+    /* by turns, so that a machine that is busy for a while is so for both */
+    for (unsigned i = 0; i < RUNS; i++) {
+        lib_seconds = fmin(lib_seconds, seconds_of(&lib, lib_image, g, deed));
+        mod_seconds = fmin(mod_seconds, seconds_of(&mod, mod_image, g, deed));
+    }
+    if (lib.ticks != mod.ticks || lib.sum != mod.sum || memcmp(mod_image.bytes, lib_image.bytes, lib_image.length) != 0)
         fail("library and model do not agree");
-    free(image.bytes);
+    free(mod_image.bytes);
     free(lib_image.bytes);
     printf("| %-11s | %-6s | %-13s | %9lu | %9lu | %12.1f | %10.1f | %5.2f |\n", g->name, deeds[deed],
            singly ? "one tick" : "runs of ticks", lib.ticks, lib.cycles, (double)lib.ticks / lib_seconds / 1e6,

@@ -15,7 +15,7 @@ use Rattle.fdc.specs.Ticks.{tickOf}
 use Rattle.fdc.proofs.GoodLaws.{Good, good-valid, good-after, good-reached}
 use Rattle.pack.specs.Bytes.{isRecord}
 use Rattle.capi.specs.Calls.{writtenOf, wordFrom, bytesFrom, cycledOf, cycleFrom}
-use Rattle.capi.specs.Run.{Ran, ticked, changedIn, runOf, startOf, ticksOf}
+use Rattle.stretch.specs.Run.{Ran, ticked, changedIn, runOf, startOf, ticksOf}
 use Rattle.capi.specs.Word.{noRecord}
 
 same-both : (t : Bool) (l : List ℕ) → cond t l l ≡ l
@@ -64,11 +64,3 @@ ticks-never-4 n a b c reached =
     let g : Good c = good-reached c reached in
     rw (good-valid c g) (run-sound n (startOf a b c) (record { good = g; done = refl }) .done)
 
--- house: one tick at a time or many, the same
-pub ticks-one : (r : Ran) → runOf 1 r ≡ ticked r
-unfolding runOf
-ticks-one r = go (changedIn (r .answer) (ticked r .answer))
-  where
-    go : (t : Bool) → cond t (ticked r) (ticked r) ≡ ticked r
-    go true = refl
-    go false = refl

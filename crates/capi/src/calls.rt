@@ -1,7 +1,6 @@
 // The calls of document 01 for firmware, and many ticks at once. No bytes trap: those that are no record are refused.
 use crate::cycle::read_cycle;
 use crate::cycle::write_cycle;
-use crate::run::ticks;
 use crate::word::long_word;
 use crate::word::word;
 use fdc::answer::Answer;
@@ -13,6 +12,7 @@ use pack::put::store;
 use pack::put::store_fifo;
 use pack::take::is_record;
 use pack::take::load;
+use stretch::run::ticks;
 ghost use mathlib.Core.Bool.{true};
 ghost use mathlib.Core.Path.{_≡_};
 ghost use Prim.Native.Nat.{_≤_};
@@ -23,6 +23,7 @@ ghost use Rattle.fdc.specs.Record.{withFifo};
 ghost use Rattle.fdc.specs.Ticks.{tickOf};
 ghost use Rattle.pack.specs.Back.{Holds};
 ghost use Rattle.pack.specs.Bytes.{recordSize, recordIn, isRecord};
+ghost use Rattle.stretch.specs.Run.{ticksOf};
 ghost use Rattle.capi.specs.Calls.{
   setIn,
   writtenOf,
@@ -38,7 +39,6 @@ ghost use Rattle.capi.specs.Calls.{
   firstFrom,
   secondFrom,
 };
-ghost use Rattle.capi.specs.Run.{ticksOf};
 ghost use Rattle.capi.specs.Word.{wordOf};
 
 // Bytes that are no record.

@@ -2,5 +2,4 @@
 // a function of its own (include/beleduritz.h).
 pub mod calls;
 mod cycle;
-mod run;
 mod word;
