@@ -15,7 +15,7 @@ use Rattle.fdc.specs.Ticks.{tickOf}
 use Rattle.fdc.proofs.GoodLaws.{Good, good-valid, good-after, good-reached}
 use Rattle.pack.specs.Bytes.{isRecord}
 use Rattle.capi.specs.Calls.{writtenOf, wordFrom, bytesFrom, cycledOf, cycleFrom}
-use Rattle.stretch.specs.Run.{Ran, ticked, changedIn, runOf, startOf, ticksOf}
+use Rattle.many_ticks.specs.Run.{Ran, ticked, changedIn, runOf, startOf, ticksOf}
 use Rattle.capi.specs.Word.{noRecord}
 
 same-both : (t : Bool) (l : List ℕ) → cond t l l ≡ l
@@ -63,4 +63,3 @@ unfolding ticksOf answerOf
 ticks-never-4 n a b c reached =
     let g : Good c = good-reached c reached in
     rw (good-valid c g) (run-sound n (startOf a b c) (record { good = g; done = refl }) .done)
-

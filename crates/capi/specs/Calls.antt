@@ -11,7 +11,7 @@ use Rattle.fdc.specs.Answer.{numberIn}
 use Rattle.fdc.specs.Ticks.{imageAfter}
 use Rattle.pack.specs.Back.{Holds}
 use Rattle.pack.specs.Bytes.{recordSize, recordIn, isRecord, storedOf, fifoStored}
-use Rattle.stretch.specs.Run.{ticksOf}
+use Rattle.many_ticks.specs.Run.{ticksOf}
 use Rattle.capi.specs.Word.{noRecord, wordOf, longOf}
 
 -- a byte for a flag

@@ -6,13 +6,13 @@ use crate::word::word;
 use fdc::answer::Answer;
 use fdc::answer::refusal_number;
 use fdc::record::Controller;
+use many_ticks::run::ticks;
 use pack::cycle::reading;
 use pack::cycle::writing;
 use pack::put::store;
 use pack::put::store_fifo;
 use pack::take::is_record;
 use pack::take::load;
-use stretch::run::ticks;
 ghost use mathlib.Core.Bool.{true};
 ghost use mathlib.Core.Path.{_≡_};
 ghost use Prim.Native.Nat.{_≤_};
@@ -23,7 +23,7 @@ ghost use Rattle.fdc.specs.Record.{withFifo};
 ghost use Rattle.fdc.specs.Ticks.{tickOf};
 ghost use Rattle.pack.specs.Back.{Holds};
 ghost use Rattle.pack.specs.Bytes.{recordSize, recordIn, isRecord};
-ghost use Rattle.stretch.specs.Run.{ticksOf};
+ghost use Rattle.many_ticks.specs.Run.{ticksOf};
 ghost use Rattle.capi.specs.Calls.{
   setIn,
   writtenOf,
