@@ -17,7 +17,7 @@ use Rattle.drive.specs.declared.Drive.{Drive}
 use Rattle.drive.specs.Drive.{waitOf as countdownOf}
 use Rattle.engine.specs.declared.flow.Flow.{Flow}
 use Rattle.engine.specs.declared.flow.Flow.the-variants.{Quiet, ToHost, FromHost}
-use Rattle.engine.specs.Step.{flowOf}
+use Rattle.engine.specs.Step.{toHost, fromHost, flowOf}
 use Rattle.fdc.specs.declared.record.Controller.{Controller}
 use Rattle.fdc.specs.declared.record.Phase.{Phase}
 use Rattle.fdc.specs.declared.record.Phase.the-variants.{Idle, Gathering, Starting, Working, Sensing, Answering}
@@ -27,7 +27,7 @@ use Rattle.fdc.specs.declared.answer.Reply.the-variants.{Done, Byte, Refused}
 use Rattle.fdc.specs.declared.ports.Port.{Port}
 use Rattle.fdc.specs.Answer.{valueOf, numberIn, answerOf}
 use Rattle.fdc.specs.Calls.{portOf, readReg, writeReg, powerOn, readPort, writePort, dmaRead, dmaWrite, noteChange}
-use Rattle.fdc.specs.Data.{toHost, fromHost, phaseToHost, phaseFromHost, readIn, readFifo, writeFifo, dmaReadOf}
+use Rattle.fdc.specs.Data.{phaseToHost, phaseFromHost, readIn, readFifo, writeFifo, dmaReadOf}
 use Rattle.fdc.specs.Data.{dmaWriteOf}
 use Rattle.fdc.specs.Record.{driveAt, phaseWait, validOf}
 use Rattle.fdc.specs.Registers.{bit, busyBits, flowStatus, phaseStatus, dmaIn, heldIn, gateIn, phaseAsks, flowAsks}

@@ -21,7 +21,7 @@ use Rattle.engine.specs.declared.flow.Flow.the-variants as flow
 use Rattle.sectors.specs.declared.order.Order.{Order}
 use Rattle.sectors.specs.declared.work.Work.{Work}
 use Rattle.engine.specs.First.{beginOf}
-use Rattle.engine.specs.Step.{flowOf, driveOf, goOnOf}
+use Rattle.engine.specs.Step.{toHost, fromHost, flowOf, driveOf, goOnOf}
 use Rattle.fdc.specs.declared.answer.Answer.{Answer}
 use Rattle.fdc.specs.declared.ports.Port.{Port}
 use Rattle.fdc.specs.declared.ports.Port.the-variants.{None, Dor, Tdr, Status, Data, Input}
@@ -35,8 +35,6 @@ use Rattle.fdc.specs.Data.{
   readFifo,
   offeredOf,
   writeFifo,
-  toHost,
-  fromHost,
   phaseToHost,
   phaseFromHost,
   dmaReadOf,

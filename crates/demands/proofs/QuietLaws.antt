@@ -11,7 +11,7 @@ use mathlib.Core.Path.{_≡_, refl, sym, ap, _∙_}
 use lib.Dec.{eqb, leb, ltb}
 use lib.ListN.{length, getD, set, replicate, length-set}
 use lib.Seq.{getD-set-same, getD-set-other}
-use borrow.Author.Tests.{eqb-true, eq-eqb}
+use borrow.Author.Tests.{eqb-true}
 use Rattle.image.proofs.TestLaws.{by-test, le-or-lt}
 use Rattle.chip.specs.declared.codes.Entry.{Entry}
 use Rattle.chip.specs.declared.codes.Kind.{Kind}
@@ -32,7 +32,6 @@ use Rattle.chip.specs.declared.codes.Kind.the-variants.{
   Configure,
 }
 use Rattle.chip.specs.declared.fifo.Fifo.{Fifo}
-use Rattle.chip.specs.Stepping.{stepTicks}
 use Rattle.drive.specs.declared.Drive.{Drive}
 use Rattle.drive.specs.declared.Motion.{Motion}
 use Rattle.drive.specs.declared.Motion.the-variants.{Still, Seeking, Recalibrating}
@@ -72,7 +71,6 @@ use Rattle.fdc.specs.Commands.{
   specifyOf,
   configureOf,
   sensingOf,
-  lowest,
   reporterOf,
   sensedOf,
   soughtOf,
@@ -151,6 +149,8 @@ use Rattle.fdc.specs.Ticks.{
   tickOf,
 }
 use Rattle.fdc.proofs.GoodLaws.{Good, good-power-on, good-after}
+use Rattle.fdc.proofs.MoveLaws.{reporter-reports}
+use Rattle.fdc.proofs.StandLaws.{tick-stands, stepped-stands}
 use Rattle.demands.specs.Work.{OfBytes, AllOfBytes, Real, atWork}
 use Rattle.demands.proofs.CallRules.{Proper, AllBytes, Each, StandsStill, Settled, Inner, Quiet}
 
@@ -335,29 +335,6 @@ not-busy k drives h f =
     go (suc (suc zero)) h p = p .2
     go (suc (suc (suc zero))) h p = p .3
     go (suc (suc (suc (suc k)))) h p = absurd (omega arith)
-
--- the drive whose report is taken has one
-reporter-reports : (drives : List Drive) → eqb (reporterOf drives) 4 ≡ false
-    → driveAt (reporterOf drives % 4) drives .report ≡ 0 → ⊥
-unfolding reporterOf
-reporter-reports drives e z = go (test 0) refl (test 1) refl (test 2) refl (test 3) refl e z
-  where
-    test : ℕ → Bool
-    test k = not (eqb (driveAt k drives .report) 0)
-
-    none : (k : ℕ) → not (eqb (driveAt k drives .report) 0) ≡ true → driveAt k drives .report ≡ 0 → ⊥
-    none k t z = false≢true (ap not (sym (eq-eqb (driveAt k drives .report) 0 z)) ∙ t)
-
-    go : (a : Bool) → not (eqb (driveAt 0 drives .report) 0) ≡ a
-        → (b : Bool) → not (eqb (driveAt 1 drives .report) 0) ≡ b
-        → (c : Bool) → not (eqb (driveAt 2 drives .report) 0) ≡ c
-        → (d : Bool) → not (eqb (driveAt 3 drives .report) 0) ≡ d
-        → eqb (lowest a b c d) 4 ≡ false → driveAt (lowest a b c d % 4) drives .report ≡ 0 → ⊥
-    go true p b q c r d s e z = none 0 p z
-    go false p true q c r d s e z = none 1 q z
-    go false p false q true r d s e z = none 2 r z
-    go false p false q false r true s e z = none 3 s z
-    go false p false q false r false s e z = true≢false e
 
 -- 01 Commands (house): a data command is accepted only while no busy bit is on
 none-busy : (drives : List Drive) → anyBusy drives ≡ false → Each Settled drives → Each StandsStill drives
@@ -670,37 +647,11 @@ settled-in (Recalibrating steps wait) number mounted step d p =
     (λ _. by-test (eqb steps 0) Settled _ _ (λ _. inl refl)
     (λ _. by-test (leb steps 1) Settled _ _ (λ _. inl refl) (λ _. inr p)))
 
-tick-stands : (number : ℕ) (mounted : Bool) (step : ℕ) (d : Drive) → StandsStill d → tickDrive number mounted step d ≡ d
-unfolding tickDrive tickIn
-tick-stands number mounted step d e = rw e
-
 settled-tick : (number : ℕ) (mounted : Bool) (step : ℕ) (d : Drive) → Settled d
     → Settled (tickDrive number mounted step d)
 unfolding tickDrive
 settled-tick number mounted step d (inl e) = rw (tick-stands number mounted step d e) (inl e)
 settled-tick number mounted step d (inr p) = settled-in (d .motion) number mounted step d p
-
-four-drives : (drives : List Drive) → length drives ≡ 4
-    → drives ≡ driveAt 0 drives ∷ driveAt 1 drives ∷ driveAt 2 drives ∷ driveAt 3 drives ∷ []
-four-drives [] e = absurd (omega arith)
-four-drives (a ∷ []) e = absurd (omega arith)
-four-drives (a ∷ b ∷ []) e = absurd (omega arith)
-four-drives (a ∷ b ∷ c ∷ []) e = absurd (omega arith)
-four-drives (a ∷ b ∷ c ∷ d ∷ []) e = refl
-four-drives (a ∷ b ∷ c ∷ d ∷ x ∷ drives) e = absurd (omega arith)
-
-stepped-stands : (a b : List ℕ) (c : Controller) → length (c .drives) ≡ 4 → Each StandsStill (c .drives)
-    → steppedOf a b c ≡ c
-unfolding steppedOf tickAll withDrives
-stepped-stands a b c long all =
-    let T : ℕ = stepTicks (c .registers .spec1 / 16) in
-    rw (
-      tick-stands 0 _ T (driveAt 0 (c .drives)) (all 0 (omega arith)),
-      tick-stands 1 _ T (driveAt 1 (c .drives)) (all 1 (omega arith)),
-      tick-stands 2 _ T (driveAt 2 (c .drives)) (all 2 (omega arith)),
-      tick-stands 3 _ T (driveAt 3 (c .drives)) (all 3 (omega arith)),
-      ← four-drives (c .drives) long,
-    )
 
 pub quiet-stepped : (a b : List ℕ) (c : Controller) → Quiet c → atWork (c .phase) ≡ true → steppedOf a b c ≡ c
 quiet-stepped a b c q w = stepped-stands a b c (q .good .drives .long) (q .still w)

@@ -1,18 +1,17 @@
 -- What every drive keeps to (01 Refusals 4): the head is not above 81, the step countdown not above 1000.
 -- Assumes nothing.
-use Prim.Native.Nat.{ℕ, _+_, _-_, _≤_, _<_}
+use Prim.Native.Nat.{ℕ, _≤_}
 use native.Mathlib.Omega.{arith}
-use mathlib.Core.Bool.{Bool, true, false, cond}
-use mathlib.Core.Path.{_≡_, refl}
+use mathlib.Core.Bool.{Bool, false}
 use lib.Dec.{eqb, leb, ltb}
 use borrow.Author.Tests.{ltb-true}
 use Rattle.image.proofs.TestLaws.{by-test}
 use Rattle.drive.specs.declared.Drive.{Drive}
 use Rattle.drive.specs.declared.Motion.{Motion}
 use Rattle.drive.specs.declared.Motion.the-variants.{Still, Seeking, Recalibrating}
-use Rattle.drive.specs.Drive.{fresh, resetOf, reportedOf, sensedOf, notedOf, distance, firstWait, recalibrateSteps, accepted, seekOf, recalibrateOf, waitOf}
+use Rattle.drive.specs.Drive.{fresh, resetOf, reportedOf, sensedOf, notedOf, distance, firstWait, recalibrateSteps, seekOf, recalibrateOf, waitOf}
 use Rattle.drive.specs.Due.{Within}
-use Rattle.drive.specs.Step.{inward, moved, stepped, moving, sought, recalibrated, seekStep, recalibrateStep, seekTick, recalibrateTick, tickIn, tickOf}
+use Rattle.drive.specs.Step.{moved, stepped, moving, sought, recalibrated, seekStep, recalibrateStep, seekTick, recalibrateTick, tickIn, tickOf}
 
 pub within-fresh : (head : ℕ) → head ≤ 81 → Within (fresh head)
 within-fresh head h = record { head = h; count = omega arith }

@@ -1,19 +1,19 @@
 -- When a Seek or Recalibrate is over (01 Stepping): each tick takes one from the ticks due, and the last one due
 -- ends it.
 -- Assumes nothing.
-use Prim.Native.Nat.{ℕ, zero, suc, _+_, _*_, _-_, _%_, _≤_, _<_}
-use native.Mathlib.Nat.{suc-mul, mul-le-mul-right}
+use Prim.Native.Nat.{ℕ, zero, suc, _+_, _-_, _%_, _≤_, _<_}
+use native.Mathlib.Nat.{suc-mul}
 use native.Mathlib.Omega.{arith}
 use mathlib.Core.Bool.{Bool, true, false, cond}
 use mathlib.Core.Path.{_≡_, refl, sym, ap, _∙_, subst}
-use lib.Dec.{eqb, leb, ltb}
-use borrow.Author.Tests.{ltb-true, ltb-false, eq-eqb, ne-eqb, lt-leb, le-leb, lt-ltb, le-ltb}
+use lib.Dec.{eqb, ltb}
+use borrow.Author.Tests.{ltb-true, ltb-false, eq-eqb, ne-eqb, lt-leb}
 use Rattle.drive.specs.declared.Drive.{Drive}
 use Rattle.drive.specs.declared.Motion.{Motion}
-use Rattle.drive.specs.declared.Motion.the-variants.{Still, Seeking, Recalibrating}
+use Rattle.drive.specs.declared.Motion.the-variants.{Seeking, Recalibrating}
 use Rattle.drive.specs.Drive.{distance, firstWait, recalibrateSteps, accepted, seekOf, recalibrateOf}
 use Rattle.drive.specs.Due.{headAfter, dueOf, Goes, Seeks, Recalibrates, Over, recalibrateReport, overAfter}
-use Rattle.drive.specs.Step.{moved, stepped, moving, sought, recalibrated, onStep, onTick, seekStep, recalibrateStep, seekTick, recalibrateTick, tickIn, tickOf}
+use Rattle.drive.specs.Step.{stepped, moving, sought, recalibrated, onStep, onTick, seekTick, recalibrateTick, tickIn, tickOf}
 
 -- what a step leaves of a drive but its head and change flag
 abbrev Arrives : (Drive → Drive) → ℕ → ℕ → Drive → Type 0

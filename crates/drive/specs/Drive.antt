@@ -1,8 +1,8 @@
 -- A drive, and what calls do to it at once: document 01, Stepping and Registers (Power-on values, Software reset).
 -- What a tick does to it is Step.
 -- Assumes nothing.
-use Prim.Native.Nat.{ℕ, _+_, _-_}
-use mathlib.Core.Bool.{Bool, true, false, _&&_, cond}
+use Prim.Native.Nat.{ℕ, _-_}
+use mathlib.Core.Bool.{true, false, _&&_, cond}
 use lib.Dec.{eqb, ltb}
 use Rattle.drive.specs.declared.Drive.{Drive}
 use Rattle.drive.specs.declared.Motion.{Motion}

@@ -1,7 +1,7 @@
 -- When a Seek or Recalibrate is over, and where it leaves the head: document 01, Stepping, "The n-th step falls n
 -- times that many ticks after the command; the last one ends it".
 -- Assumes nothing.
-use Prim.Native.Nat.{ℕ, zero, suc, _+_, _*_, _-_, _%_, _≤_}
+use Prim.Native.Nat.{ℕ, zero, suc, _+_, _*_, _%_, _≤_}
 use mathlib.Core.Bool.{Bool, true, false, _&&_, cond}
 use mathlib.Core.Path.{_≡_}
 use lib.Dec.{eqb, ltb}

@@ -49,12 +49,12 @@ use Rattle.sectors.specs.declared.work.Work.the-variants.{Identifying, Moving, 
 use Rattle.engine.specs.First.{writes, taskOf, movingOf, startOf, enteredOf, beginOf}
 use Rattle.sectors.specs.Follow.{freshAt, followedOf, followOf, turnOf}
 use Rattle.engine.specs.Format.{formatEnd, formsOf, formWait, formAwait, addressPut, addressOf, clearOn, formedOf, fillOf, clearOf, formOf}
-use Rattle.engine.specs.Kept.{suits, suited, jobFlow, fromHost, thenWait, thenSuited, thenFlow, thenDrive, thenFifo, storePlace, Kept}
+use Rattle.engine.specs.Kept.{suits, suited, jobFlow, thenWait, thenSuited, thenFlow, thenDrive, thenFifo, storePlace, Kept}
 use Rattle.sectors.specs.Read.{overrun, lastByte, readOn, readOf, drainedOf, drainOf}
 use Rattle.engine.specs.ReadId.{noIdOf, noIdHere, idHere, identifiedOf, identifyOf}
 use Rattle.sectors.specs.Result.{endOf, moveEnd, moveFails, movesOf}
 use Rattle.sectors.specs.Search.{matches, secondPass, notFound, missedOf, withOther, readFound, dataFound, bareFound, lookedOf, searchOf}
-use Rattle.engine.specs.Step.{lostOf, stageOf, workOf, goOnOf, siteOf, passFlow, flowOf, waitOf, driveOf, stageWait}
+use Rattle.engine.specs.Step.{lostOf, stageOf, workOf, goOnOf, siteOf, passFlow, fromHost, flowOf, waitOf, driveOf, stageWait}
 use Rattle.sectors.specs.Track.{hasTrack, staysOf, passBytes, sectorBytes, dataPlace, markPlace}
 use Rattle.sectors.specs.Write.{underrun, awaitOf, putOf, dryOf, writtenOf, storeOf}
 

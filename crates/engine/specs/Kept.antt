@@ -9,7 +9,7 @@ use Rattle.chip.specs.Fifo.{emptied, Fits}
 use Rattle.image.specs.declared.lent.Effect.{Effect}
 use Rattle.image.specs.declared.lent.Effect.the-variants.{Nothing, Store}
 use Rattle.engine.specs.declared.flow.Flow.{Flow}
-use Rattle.engine.specs.declared.flow.Flow.the-variants.{Quiet, ToHost, FromHost}
+use Rattle.engine.specs.declared.flow.Flow.the-variants.{Quiet, FromHost}
 use Rattle.sectors.specs.declared.order.Job.{Job}
 use Rattle.sectors.specs.declared.order.Job.the-variants.{Identify, Move, Format}
 use Rattle.sectors.specs.declared.order.Pass.{Pass}
@@ -21,7 +21,7 @@ use Rattle.sectors.specs.declared.work.Then.the-variants.{Ends, Works}
 use Rattle.sectors.specs.declared.work.Work.{Work}
 use Rattle.sectors.specs.declared.work.Work.the-variants.{Identifying, Moving, Formatting}
 use Rattle.engine.specs.First.{writes}
-use Rattle.engine.specs.Step.{passFlow, flowOf, waitOf, driveOf}
+use Rattle.engine.specs.Step.{passFlow, fromHost, flowOf, waitOf, driveOf}
 
 -- a stage that a transfer of that kind has
 abbrev pub suits : Pass → Stage → Bool
@@ -41,11 +41,6 @@ abbrev pub jobFlow : Job → Flow
 jobFlow Identify = Quiet
 jobFlow (Move transfer id) = passFlow (transfer .pass)
 jobFlow (Format plan) = FromHost
-
-abbrev pub fromHost : Flow → Bool
-fromHost Quiet = false
-fromHost ToHost = false
-fromHost FromHost = true
 
 -- of the work that goes on, if any does
 abbrev pub thenWait : Then → ℕ

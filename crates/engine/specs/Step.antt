@@ -61,6 +61,16 @@ abbrev pub passFlow : Pass → Flow
 passFlow Read = ToHost
 passFlow Write = FromHost
 
+abbrev pub toHost : Flow → Bool
+toHost Quiet = false
+toHost ToHost = true
+toHost FromHost = false
+
+abbrev pub fromHost : Flow → Bool
+fromHost Quiet = false
+fromHost ToHost = false
+fromHost FromHost = true
+
 -- 01 Registers MSR: which way its bytes go
 abbrev pub flowOf : Work → Flow
 flowOf (Identifying site slot passes) = Quiet

@@ -1,14 +1,14 @@
 -- What every record reached from power-on keeps to (01 Refusals 4, "No record reached from power-on by calls earns 4").
 -- Assumes nothing.
-use Prim.Native.Nat.{ℕ, zero, suc, _+_, _-_, _*_, _/_, _%_, _≤_, _<_}
+use Prim.Native.Nat.{ℕ, zero, suc, _/_, _%_, _≤_, _<_}
 use native.Mathlib.Omega.{arith}
 use mathlib.Core.Bool.{Bool, true, false, not, _&&_, false≢true}
 use mathlib.Core.List.{List, [], _∷_}
-use mathlib.Core.Path.{_≡_, refl, sym, ap, _∙_, subst}
+use mathlib.Core.Path.{_≡_, refl, _∙_}
 use lib.Dec.{eqb, leb, ltb}
-use lib.ListN.{length, getD, set, length-set}
+use lib.ListN.{length, set, length-set}
 use lib.Seq.{getD-set-same, getD-set-other}
-use borrow.Author.Tests.{ltb-true, leb-true, leb-false}
+use borrow.Author.Tests.{ltb-true, leb-true}
 use Rattle.image.proofs.TestLaws.{by-test, both, le-or-lt}
 use mathlib.Core.Logic.{_⊎_, inl, inr}
 use Rattle.image.specs.Lent.{pickOf}
@@ -16,47 +16,42 @@ use Rattle.chip.specs.declared.codes.Entry.{Entry}
 use Rattle.chip.specs.declared.codes.Kind.{Kind}
 use Rattle.chip.specs.declared.codes.Kind.the-variants.{Unknown, ReadData, ReadDeleted, WriteData, WriteDeleted, ReadId, Format, Recalibrate, SenseInterrupt, Specify, SenseDrive, Seek, Version, Configure}
 use Rattle.chip.specs.declared.fifo.Fifo.{Fifo}
-use Rattle.chip.specs.Commands.{entryOf}
-use Rattle.chip.specs.Fifo.{capacityOf, emptied, takenOf, givenOf, Fits}
+use Rattle.chip.specs.Fifo.{emptied, Fits}
 use Rattle.chip.specs.Stepping.{stepTicks}
 use Rattle.chip.proofs.CodeLaws.{entry-bytes-range}
 use Rattle.chip.proofs.FifoLaws.{fits-emptied, fits-taken, fits-given}
 use Rattle.chip.proofs.StepLaws.{step-most}
 use Rattle.drive.specs.declared.Drive.{Drive}
-use Rattle.drive.specs.Drive.{fresh, reportedOf, notedOf, seekOf, recalibrateOf, waitOf as countdownOf}
+use Rattle.drive.specs.Drive.{reportedOf, notedOf}
 use Rattle.drive.specs.Drive.{resetOf as resetDrive}
-use Rattle.drive.specs.Drive.{sensedOf as sensedDrive}
 use Rattle.drive.specs.Due.{Within}
 use Rattle.drive.specs.Step.{tickOf as tickDrive}
 use Rattle.drive.proofs.DriveLaws.{within-fresh, within-reset, within-reported, within-sensed, within-noted, within-seek, within-recalibrate, within-tick}
 use Rattle.sectors.specs.declared.order.Order.{Order}
 use Rattle.sectors.specs.declared.work.Then.{Then}
 use Rattle.sectors.specs.declared.work.Then.the-variants.{Ends, Works}
-use Rattle.sectors.specs.declared.work.Step.{Step}
 use Rattle.sectors.specs.declared.work.Work.{Work}
-use Rattle.engine.specs.Kept.{Kept, thenWait, thenFifo}
-use Rattle.engine.specs.Step.{waitOf, driveOf, goOnOf}
-use Rattle.engine.specs.First.{beginOf}
+use Rattle.engine.specs.Kept.{thenWait, thenFifo}
+use Rattle.engine.specs.Step.{waitOf, driveOf}
 use Rattle.engine.proofs.KeptLaws.{begin-kept, go-on-kept}
 use Rattle.fdc.specs.declared.record.Controller.{Controller}
 use Rattle.fdc.specs.declared.record.Registers.{Registers}
 use Rattle.fdc.specs.declared.record.Phase.{Phase}
 use Rattle.fdc.specs.declared.record.Phase.the-variants.{Idle, Gathering, Starting, Working, Sensing, Answering}
 use Rattle.fdc.specs.declared.answer.Answer.{Answer}
-use Rattle.fdc.specs.declared.answer.Reply.the-variants.{Done, Byte, Refused}
 use Rattle.fdc.specs.declared.ports.Port.{Port}
 use Rattle.fdc.specs.declared.ports.Port.the-variants.{None, Dor, Tdr, Status, Data, Input}
 use Rattle.fdc.specs.declared.ticks.Decision.{Decision}
 use Rattle.fdc.specs.Answer.{answerOf}
 use Rattle.fdc.specs.Calls.{portOf, readReg, writeReg, powerOn, readPort, writePort, dmaRead, dmaWrite, noteChange}
-use Rattle.fdc.specs.Commands.{answeredOf, saidOf, saidTwo, idledOf, commandByte, specifyOf, configureOf, sensingOf, reporterOf, sensedOf, ticksOf, soughtOf, recalibratedOf, startedOf, ranOf, runOf, heedsOf, gatheredOf, goesOn, begunOf}
-use Rattle.fdc.specs.Data.{resultTaken, shifted, readIn, readFifo, offeredOf, writeFifo, dmaReadOf, dmaWriteOf, phaseToHost, phaseFromHost, phaseHears}
+use Rattle.fdc.specs.Commands.{answeredOf, saidOf, saidTwo, idledOf, commandByte, specifyOf, configureOf, sensingOf, reporterOf, sensedOf, soughtOf, recalibratedOf, startedOf, ranOf, runOf, heedsOf, gatheredOf, goesOn, begunOf}
+use Rattle.fdc.specs.Data.{resultTaken, readIn, readFifo, offeredOf, writeFifo, dmaReadOf, dmaWriteOf, phaseToHost, phaseFromHost, phaseHears}
 use Rattle.fdc.specs.Record.{freshOf, driveAt, withRegisters, withDrives, withFifo, withBytes, withPhase, withDrive, phaseWait, validOf}
 use Rattle.fdc.specs.Registers.{heldIn, msrOf, drqOf, anyBusy}
 use Rattle.fdc.specs.Reset.{resetAll, resetOf, reportAll, releasedBy, releasedOf, withDor, withTdr, withRate, wroteDor, wroteDsr}
 use Rattle.fdc.specs.Runs.{Call, powers, reads, writes, takes, gives, ticks, notes, answerTo, after, runCalls, Reached}
-use Rattle.fdc.specs.Ticks.{seenOf, presentIn, tickAll, steppedOf, sensedAt, stillOf, settledOf, decidedOf, startOf, workOf, decideIn, decideOf, ruledOf, tickReply, tickOf}
-use Rattle.fdc.proofs.ValidLaws.{Valid, valid-true}
+use Rattle.fdc.specs.Ticks.{seenOf, tickAll, steppedOf, sensedAt, stillOf, settledOf, decidedOf, startOf, workOf, decideIn, decideOf, ruledOf, tickOf}
+use Rattle.fdc.proofs.ValidLaws.{valid-true}
 
 -- four drives, each within its bounds
 pub record Four (drives : List Drive) : Type 0 where

@@ -4,5 +4,6 @@ pub mod GoodLaws
 pub mod MoveLaws
 pub mod ResetLaws
 pub mod SeekLaws
+pub mod StandLaws
 pub mod ValidLaws
 pub mod Whole

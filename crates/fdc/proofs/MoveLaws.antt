@@ -3,26 +3,24 @@
 -- Assumes nothing.
 use Prim.Native.Nat.{ℕ, zero, suc, _+_, _-_, _/_, _%_, _≤_, _<_}
 use native.Mathlib.Omega.{arith}
-use mathlib.Core.Bool.{Bool, true, false, not, _&&_, _||_, cond, true≢false, false≢true, or-true}
+use mathlib.Core.Bool.{Bool, true, false, not, _&&_, cond, true≢false, false≢true, or-true}
 use mathlib.Core.List.{List, [], _∷_}
 use mathlib.Core.Logic.{_⊎_, inl, inr}
 use mathlib.Core.Path.{_≡_, refl, sym, ap, _∙_, subst}
 use lib.Dec.{eqb, leb, ltb}
-use lib.ListN.{length, getD, set}
+use lib.ListN.{length}
 use lib.Seq.{getD-set-same, getD-set-other}
-use borrow.Author.Tests.{eqb-true, eqb-false, eq-eqb}
+use borrow.Author.Tests.{eqb-true, eq-eqb}
 use Rattle.image.proofs.TestLaws.{by-test, le-or-lt}
 use Rattle.chip.specs.declared.codes.Entry.{Entry}
 use Rattle.chip.specs.declared.codes.Kind.{Kind}
 use Rattle.chip.specs.declared.codes.Kind.the-variants.{Unknown, ReadData, ReadDeleted, WriteData, WriteDeleted, ReadId, Format, Recalibrate, SenseInterrupt, Specify, SenseDrive, Seek, Version, Configure}
 use Rattle.chip.specs.Stepping.{stepTicks}
-use Rattle.chip.proofs.StepLaws.{step-most}
 use Rattle.drive.specs.declared.Drive.{Drive}
 use Rattle.drive.specs.declared.Motion.{Motion}
 use Rattle.drive.specs.Drive.{notedOf}
-use Rattle.drive.specs.Due.{Goes, Seeks, Recalibrates, Over, recalibrateReport}
+use Rattle.drive.specs.Due.{Goes}
 use Rattle.drive.specs.Step.{tickOf as tickDrive}
-use Rattle.drive.proofs.StepLaws.{seek-goes-on, seek-ends, recalibrate-goes-on, recalibrate-ends}
 use Rattle.sectors.specs.declared.work.Then.{Then}
 use Rattle.sectors.specs.declared.work.Then.the-variants.{Ends, Works}
 use Rattle.fdc.specs.declared.record.Controller.{Controller}
@@ -33,8 +31,8 @@ use Rattle.fdc.specs.declared.ports.Port.{Port}
 use Rattle.fdc.specs.declared.ports.Port.the-variants.{None, Dor, Tdr, Status, Data, Input}
 use Rattle.fdc.specs.declared.ticks.Decision.{Decision}
 use Rattle.fdc.specs.Answer.{answerOf}
-use Rattle.fdc.specs.Calls.{portOf, readReg, writeReg, powerOn, readPort, writePort, dmaRead, dmaWrite, noteChange}
-use Rattle.fdc.specs.Commands.{answeredOf, saidOf, saidTwo, idledOf, commandByte, specifyOf, configureOf, sensingOf, lowest, reporterOf, sensedOf, ticksOf, soughtOf, recalibratedOf, startedOf, ranOf, runOf, heedsOf, gatheredOf, goesOn, begunOf}
+use Rattle.fdc.specs.Calls.{portOf, readReg, writeReg, readPort, writePort, dmaRead, dmaWrite, noteChange}
+use Rattle.fdc.specs.Commands.{answeredOf, saidOf, saidTwo, idledOf, commandByte, lowest, reporterOf, sensedOf, soughtOf, recalibratedOf, ranOf, runOf, heedsOf, gatheredOf, goesOn, begunOf}
 use Rattle.fdc.specs.Data.{resultTaken, readIn, readFifo, offeredOf, writeFifo, dmaReadOf, dmaWriteOf, phaseToHost, phaseFromHost}
 use Rattle.fdc.specs.Moves.{Calm, AllCalm, tickOne, tickCount, Awake, Same, OnTime}
 use Rattle.fdc.specs.Record.{driveAt, withRegisters, withDrives, withFifo, withBytes, withPhase, withDrive, validOf}
@@ -72,7 +70,7 @@ any-busy (suc (suc (suc zero))) drives h e = simp (e, or-true)
 any-busy (suc (suc (suc (suc k)))) drives h e = absurd (omega arith)
 
 -- the drive whose report is taken has one
-reporter-reports : (drives : List Drive) → eqb (reporterOf drives) 4 ≡ false
+pub reporter-reports : (drives : List Drive) → eqb (reporterOf drives) 4 ≡ false
     → driveAt (reporterOf drives % 4) drives .report ≡ 0 → ⊥
 unfolding reporterOf
 reporter-reports drives e z = go (test 0) refl (test 1) refl (test 2) refl (test 3) refl e z

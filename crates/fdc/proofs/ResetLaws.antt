@@ -2,12 +2,11 @@
 -- Assumes nothing.
 use Prim.Native.Nat.{ℕ, zero, suc, _+_, _/_, _<_}
 use native.Mathlib.Omega.{arith}
-use mathlib.Core.Bool.{Bool, true, false, not, _&&_}
+use mathlib.Core.Bool.{true, false}
 use mathlib.Core.Path.{_≡_, refl, ap, _∙_}
 use lib.Dec.{eqb}
 use Rattle.image.proofs.TestLaws.{by-test}
 use Rattle.drive.specs.declared.Drive.{Drive}
-use Rattle.drive.specs.declared.Motion.the-variants.{Still}
 use Rattle.drive.specs.Drive.{reportedOf}
 use Rattle.drive.specs.Drive.{resetOf as resetDrive}
 use Rattle.fdc.specs.declared.record.Controller.{Controller}

@@ -1,9 +1,9 @@
 -- Seek and Recalibrate, from their acceptance to their end (01 Stepping), over every list of calls.
 -- Assumes nothing.
-use Prim.Native.Nat.{ℕ, _+_, _*_, _/_, _%_, _≤_, _<_}
+use Prim.Native.Nat.{ℕ, _+_, _/_, _%_, _≤_, _<_}
 use native.Mathlib.Omega.{arith}
-use mathlib.Core.Bool.{Bool, false}
-use mathlib.Core.Path.{_≡_, refl, sym, _∙_, subst}
+use mathlib.Core.Bool.{false}
+use mathlib.Core.Path.{_≡_, refl}
 use lib.Dec.{ltb}
 use lib.ListN.{length}
 use lib.Seq.{getD-set-same}
@@ -12,10 +12,10 @@ use Rattle.chip.proofs.StepLaws.{step-least}
 use Rattle.drive.specs.declared.Drive.{Drive}
 use Rattle.drive.specs.declared.Motion.the-variants.{Seeking, Recalibrating}
 use Rattle.drive.specs.Drive.{distance, recalibrateSteps, seekOf, recalibrateOf}
-use Rattle.drive.specs.Due.{headAfter, overAfter, Goes, Seeks, Recalibrates, Over, recalibrateReport}
+use Rattle.drive.specs.Due.{headAfter, overAfter, Seeks, Recalibrates, Over, recalibrateReport}
 use Rattle.drive.proofs.StepLaws.{seek-begins, seek-goes-on, seek-ends, recalibrate-begins, recalibrate-goes-on, recalibrate-ends}
 use Rattle.fdc.specs.declared.record.Controller.{Controller}
-use Rattle.fdc.specs.Commands.{saidOf, idledOf, commandByte, ticksOf, soughtOf, recalibratedOf}
+use Rattle.fdc.specs.Commands.{idledOf, commandByte, ticksOf, soughtOf, recalibratedOf}
 use Rattle.fdc.specs.Moves.{Awake, OnTime}
 use Rattle.fdc.specs.Record.{driveAt, withDrives, withDrive}
 use Rattle.fdc.specs.Registers.{heldIn}

@@ -1,15 +1,13 @@
 -- The data register at offset 5, and the DMA cycles: document 01, Refusals 2 and 3, FIFO and request.
 -- Assumes nothing.
 use Prim.Native.Nat.{ℕ, _-_, _/_}
-use mathlib.Core.Bool.{Bool, true, false, _&&_, cond}
+use mathlib.Core.Bool.{Bool, false, _&&_, cond}
 use mathlib.Core.List.{List, [], _∷_, _++_}
 use lib.Dec.{eqb, leb}
 use lib.ListN.{getD, drop}
 use Rattle.chip.specs.declared.refusal.Refusal.the-variants.{Turn, Line}
 use Rattle.chip.specs.Fifo.{frontOf, takenOf, givenOf}
-use Rattle.engine.specs.declared.flow.Flow.{Flow}
-use Rattle.engine.specs.declared.flow.Flow.the-variants.{Quiet, ToHost, FromHost}
-use Rattle.engine.specs.Step.{flowOf, hearsTc}
+use Rattle.engine.specs.Step.{toHost, fromHost, flowOf, hearsTc}
 use Rattle.fdc.specs.declared.record.Phase.{Phase}
 use Rattle.fdc.specs.declared.record.Phase.the-variants.{Idle, Gathering, Starting, Working, Sensing, Answering}
 use Rattle.fdc.specs.declared.record.Controller.{Controller}
@@ -53,16 +51,6 @@ offeredOf (Answering loud) byte c = c
 unfoldable pub writeFifo : ℕ → Controller → Answer
 writeFifo byte c =
     cond (eqb (msrOf c / 64) 2) (answerOf Done (offeredOf (c .phase) byte c)) (answerOf (Refused Turn) c)
-
-abbrev pub toHost : Flow → Bool
-toHost Quiet = false
-toHost ToHost = true
-toHost FromHost = false
-
-abbrev pub fromHost : Flow → Bool
-fromHost Quiet = false
-fromHost ToHost = false
-fromHost FromHost = true
 
 abbrev pub phaseToHost : Phase → Bool
 phaseToHost Idle = false

@@ -1,7 +1,7 @@
 -- What the registers and lines show of the record: document 01, Registers.
 -- Assumes nothing.
 use Prim.Native.Nat.{ℕ, _+_, _*_, _/_, _%_, _^_}
-use mathlib.Core.Bool.{Bool, true, false, not, _&&_, _||_, cond}
+use mathlib.Core.Bool.{Bool, false, not, _&&_, _||_, cond}
 use mathlib.Core.List.{List}
 use lib.Dec.{eqb, leb}
 use Rattle.drive.specs.declared.Drive.{Drive}

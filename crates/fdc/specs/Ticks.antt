@@ -1,7 +1,7 @@
 -- The tick: document 01, What the box models, Stepping, Commands (Sense Drive) and Data commands, whose rules are
 -- the engine's.
 -- Assumes nothing.
-use Prim.Native.Nat.{ℕ, _+_, _/_, _%_}
+use Prim.Native.Nat.{ℕ, _+_, _%_}
 use mathlib.Core.Bool.{Bool, true, false, _&&_, cond}
 use mathlib.Core.List.{List, [], _∷_}
 use lib.Dec.{eqb, ltb}

@@ -12,6 +12,7 @@ use engine::flow::flow_of;
 use engine::flow::hears_tc;
 ghost use mathlib.Core.Path.{_≡_};
 ghost use Prim.Native.Nat.{_-_, _≤_};
+ghost use Rattle.engine.specs.Step.{toHost, fromHost};
 ghost use Rattle.fdc.specs.Data.{
   shifted,
   resultTaken,
@@ -19,8 +20,6 @@ ghost use Rattle.fdc.specs.Data.{
   readFifo,
   offeredOf,
   writeFifo,
-  toHost,
-  fromHost,
   phaseToHost,
   phaseFromHost,
   phaseHears,

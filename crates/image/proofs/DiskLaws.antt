@@ -1,21 +1,21 @@
 -- Laws of `diskIn` (01 Image mounted): it answers a disk exactly when the image fits, and a store behind the header
 -- changes no answer.
 -- Assumes nothing.
-use Prim.Native.Nat.{ℕ, _+_, _*_, _^_, _≤_, _<_}
+use Prim.Native.Nat.{ℕ, _*_, _^_, _≤_, _<_}
 use native.Mathlib.Nat.{mod-eq-of-lt}
 use native.Mathlib.Omega.{arith}
 use mathlib.Core.Bool.{Bool, true, false, _&&_}
 use mathlib.Core.List.{List}
 use mathlib.Core.Path.{_≡_, refl, sym, ap, _∙_}
 use lib.Dec.{eqb, leb}
-use lib.ListN.{length, getD, take, drop, set, length-set}
+use lib.ListN.{length, getD, take, set, length-set}
 use lib.Seq.{getD-take, getD-set-other}
 use borrow.Author.Tests.{leb-true, eqb-true, eqb-false, le-leb, eq-eqb}
 use Rattle.image.specs.declared.layout.Geometry.{Geometry}
 use Rattle.image.specs.declared.disk.Disk.{Disk}
 use Rattle.image.specs.declared.disk.Disk.the-variants.{Absent, Present}
 use Rattle.image.specs.Layout.{sizeOf, slotLength, trackLength, lengthOf}
-use Rattle.image.specs.Disk.{within, inRange, headerIn, geometryIn, diskIn, flag, headerOf, InRange, Fits}
+use Rattle.image.specs.Disk.{within, headerIn, geometryIn, diskIn, flag, headerOf, InRange, Fits}
 use Rattle.image.proofs.LayoutLaws.{product-le, size-le, length-ge}
 use Rattle.image.proofs.ListLaws.{listed-part}
 use Rattle.image.proofs.TestLaws.{by-test, both}

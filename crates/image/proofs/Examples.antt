@@ -2,14 +2,12 @@
 -- Assumes nothing.
 use Prim.Native.Nat.{ℕ, zero, suc, _<_, _≤_}
 use native.Mathlib.Omega.{arith}
-use mathlib.Core.List.{List}
 use mathlib.Core.Path.{_≡_, refl, ap}
 use Rattle.image.specs.declared.slot.Id.{Id}
 use Rattle.image.specs.declared.disk.Disk.the-variants.{Present}
 use Rattle.image.specs.Layout.{sizeOf, trackLength, lengthOf, trackAt, offsetOf, Has}
-use Rattle.image.specs.Disk.{headerIn, geometryIn, diskIn, InRange, Fits}
-use Rattle.image.specs.Slot.{idAt}
-use Rattle.image.specs.Sound.{Sound, Track, Field, markIn, NoTwins}
+use Rattle.image.specs.Disk.{headerIn, geometryIn, diskIn, Fits}
+use Rattle.image.specs.Sound.{Sound, Track, markIn, NoTwins}
 use Rattle.image.specs.Examples.{Examples, disk, sample}
 
 pub examples : Examples

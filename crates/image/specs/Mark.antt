@@ -1,7 +1,7 @@
 -- 01 Image marks: 0 no ID; 1 normal; 2 deleted; 3, 4 the same, broken; 5 ID without data; others count as 0.
 -- Assumes nothing.
 use Prim.Native.Nat.{ℕ}
-use mathlib.Core.Bool.{Bool, true, false, cond}
+use mathlib.Core.Bool.{true, false, cond}
 use lib.Dec.{eqb}
 use Rattle.image.specs.declared.mark.Mark.{Mark}
 use Rattle.image.specs.declared.mark.Mark.the-variants.{NoId, Data, NoData}

@@ -1,10 +1,10 @@
 -- While a sector's bytes pass and nothing else moves, the ticks made the short way are those of the rules (01 Calls,
 -- Read, Write).
 -- Assumes nothing.
-use Prim.Native.Nat.{ℕ, zero, suc, _+_, _-_, _/_, _%_, _≤_, _<_}
+use Prim.Native.Nat.{ℕ, zero, suc, _+_, _-_, _%_, _≤_, _<_}
 use native.Mathlib.Omega.{arith}
-use mathlib.Core.Bool.{Bool, true, false, not, _&&_, _||_, cond, Bool·beq, true≢false, false≢true}
-use mathlib.Core.List.{List, [], _∷_}
+use mathlib.Core.Bool.{Bool, true, false, not, _&&_, _||_, cond, Bool·beq, false≢true}
+use mathlib.Core.List.{List, []}
 use mathlib.Core.Path.{_≡_, refl, sym, _∙_, subst}
 use lib.Dec.{eqb, leb}
 use lib.ListN.{length, getD, set}
@@ -17,17 +17,13 @@ use Rattle.image.proofs.DiskLaws.{store-keeps-disk}
 use Rattle.image.proofs.TestLaws.{by-test, both}
 use Rattle.chip.specs.declared.fifo.Fifo.{Fifo}
 use Rattle.chip.specs.Fifo.{capacityOf, fullOf, frontOf, filledOf, drawnOf}
-use Rattle.chip.specs.Stepping.{stepTicks}
 use Rattle.drive.specs.declared.Drive.{Drive}
 use Rattle.drive.specs.declared.Motion.{Motion}
 use Rattle.drive.specs.declared.Motion.the-variants.{Still, Seeking, Recalibrating}
-use Rattle.drive.specs.Step.{tickIn}
-use Rattle.drive.specs.Step.{tickOf as tickDrive}
 use Rattle.sectors.specs.declared.work.Sector.{Sector}
 use Rattle.sectors.specs.declared.work.Site.{Site}
 use Rattle.sectors.specs.declared.work.Stage.{Stage}
 use Rattle.sectors.specs.declared.work.Stage.the-variants.{Searching, Turning, Reading, Draining, Awaiting, Storing}
-use Rattle.sectors.specs.declared.work.Step.{Step}
 use Rattle.sectors.specs.declared.work.Task.{Task}
 use Rattle.sectors.specs.declared.work.Then.the-variants.{Works}
 use Rattle.sectors.specs.declared.work.Work.{Work}
@@ -44,23 +40,11 @@ use Rattle.fdc.specs.declared.answer.Reply.the-variants.{Done}
 use Rattle.fdc.specs.declared.record.Controller.{Controller}
 use Rattle.fdc.specs.declared.record.Phase.{Phase}
 use Rattle.fdc.specs.declared.record.Phase.the-variants.{Idle, Gathering, Starting, Working, Sensing, Answering}
-use Rattle.fdc.specs.declared.ticks.Decision.{Decision}
 use Rattle.fdc.specs.Answer.{answerOf}
-use Rattle.fdc.specs.Record.{driveAt, withDrives, withFifo, withPhase, validOf}
+use Rattle.fdc.specs.Record.{driveAt, withFifo, withPhase, validOf}
 use Rattle.fdc.specs.Registers.{heldIn, intOf, drqOf}
-use Rattle.fdc.specs.Ticks.{
-  seenOf,
-  tickAll,
-  steppedOf,
-  settledOf,
-  decidedOf,
-  workOf,
-  decideIn,
-  decideOf,
-  ruledOf,
-  tickOf,
-  imageAfter,
-}
+use Rattle.fdc.specs.Ticks.{seenOf, settledOf, decidedOf, workOf, decideIn, decideOf, ruledOf, tickOf, imageAfter}
+use Rattle.fdc.proofs.StandLaws.{stepped-stands}
 use Rattle.fdc.proofs.ValidLaws.{Valid, valid-true, true-valid}
 use Rattle.many_ticks.specs.declared.sector.Pace.{Pace}
 use Rattle.many_ticks.specs.Sector.{paceOf, readRests, readFill, readsOf}
@@ -73,43 +57,26 @@ use Rattle.many_ticks.specs.declared.stream.Stream.the-variants.{Other, 
 use Rattle.many_ticks.specs.Stream.{standsIn, standsAt, allStand, stageStream, workStream, phaseStream}
 use Rattle.many_ticks.specs.Stream.{meetsOf, kept, restsOf, streamIn}
 
--- a drive that stands has no tick
-stands-in : (motion : Motion) (number : ℕ) (mounted : Bool) (step : ℕ) (d : Drive) → standsIn motion ≡ true
-    → tickIn motion number mounted step d ≡ d
-unfolding tickIn
-stands-in Still number mounted step d h = refl
-stands-in (Seeking target steps wait) number mounted step d h = absurd (false≢true h)
-stands-in (Recalibrating steps wait) number mounted step d h = absurd (false≢true h)
+-- the four drives stand
+still-in : (motion : Motion) → standsIn motion ≡ true → motion ≡ Still
+still-in Still h = refl
+still-in (Seeking target steps wait) h = absurd (false≢true h)
+still-in (Recalibrating steps wait) h = absurd (false≢true h)
 
-stands-ticks : (number : ℕ) (mounted : Bool) (step : ℕ) (d : Drive) → standsIn (d .motion) ≡ true
-    → tickDrive number mounted step d ≡ d
-unfolding tickDrive
-stands-ticks number mounted step d h = stands-in (d .motion) number mounted step d h
-
-four-drives : (drives : List Drive) → length drives ≡ 4
-    → drives ≡ driveAt 0 drives ∷ driveAt 1 drives ∷ driveAt 2 drives ∷ driveAt 3 drives ∷ []
-four-drives [] e = absurd (omega arith)
-four-drives (a ∷ []) e = absurd (omega arith)
-four-drives (a ∷ b ∷ []) e = absurd (omega arith)
-four-drives (a ∷ b ∷ c ∷ []) e = absurd (omega arith)
-four-drives (a ∷ b ∷ c ∷ d ∷ []) e = refl
-four-drives (a ∷ b ∷ c ∷ d ∷ x ∷ drives) e = absurd (omega arith)
-
-stepped-stands : (a b : List ℕ) (c : Controller) → length (c .drives) ≡ 4 → allStand (c .drives) ≡ true
-    → steppedOf a b c ≡ c
-unfolding steppedOf tickAll withDrives
-stepped-stands a b c long all =
-    let T : ℕ = stepTicks (c .registers .spec1 / 16) in
-    let three = both (standsAt 0 (c .drives) && standsAt 1 (c .drives) && standsAt 2 (c .drives)) _ all in
-    let two = both (standsAt 0 (c .drives) && standsAt 1 (c .drives)) _ (three .0) in
-    let one = both (standsAt 0 (c .drives)) _ (two .0) in
-    rw (
-      stands-ticks 0 _ T (driveAt 0 (c .drives)) (one .0),
-      stands-ticks 1 _ T (driveAt 1 (c .drives)) (one .1),
-      stands-ticks 2 _ T (driveAt 2 (c .drives)) (two .1),
-      stands-ticks 3 _ T (driveAt 3 (c .drives)) (three .1),
-      ← four-drives (c .drives) long,
-    )
+all-still : (drives : List Drive) → allStand drives ≡ true → (k : ℕ) → k < 4 → driveAt k drives .motion ≡ Still
+all-still drives all k low =
+    let three = both (standsAt 0 drives && standsAt 1 drives && standsAt 2 drives) _ all in
+    let two = both (standsAt 0 drives && standsAt 1 drives) _ (three .0) in
+    let one = both (standsAt 0 drives) _ (two .0) in
+    at k low (still-in _ (one .0)) (still-in _ (one .1)) (still-in _ (two .1)) (still-in _ (three .1))
+  where
+    at : (k : ℕ) → k < 4 → driveAt 0 drives .motion ≡ Still → driveAt 1 drives .motion ≡ Still
+        → driveAt 2 drives .motion ≡ Still → driveAt 3 drives .motion ≡ Still → driveAt k drives .motion ≡ Still
+    at zero low a b c d = a
+    at (suc zero) low a b c d = b
+    at (suc (suc zero)) low a b c d = c
+    at (suc (suc (suc zero))) low a b c d = d
+    at (suc (suc (suc (suc k)))) low a b c d = absurd (omega arith)
 
 -- the lines as they are
 beq-same : (t : Bool) → Bool·beq t t ≡ true
@@ -221,7 +188,7 @@ module _ (c : Controller) (site : Site) (task : Task) where
         (atOf stage fifo)
     unfolding ruledOf decideOf decideIn workOf goOnOf workStep withFifo withPhase
     tick-at stage fifo v =
-        rw (v, s .free, stepped-stands a b (atOf stage fifo) (s .four) (s .stand), s .there)
+        rw (v, s .free, stepped-stands a b (atOf stage fifo) (s .four) (all-still (c .drives) (s .stand)), s .there)
 
     -- one tick more, that ends nothing
     ticked-at : (stage stage' : Stage) (fifo fifo' : Fifo) (e : Effect) (m : ℕ) → validOf (atOf stage fifo) ≡ true

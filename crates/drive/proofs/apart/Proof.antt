@@ -2,7 +2,6 @@
 -- Assumes nothing.
 use borrow.Author.Tests.{ltb-true, ltb-false}
 use native.Mathlib.Omega.{arith}
-use borrow.Author.Needs.{needs}
 use Rattle.drive.proofs.apart.Statement.{statement}
 use Rattle.drive.proofs.apart.Tie as tie
 

@@ -1,9 +1,8 @@
 -- `fdc::lines::motor_weight` meets its contract.
 -- Assumes nothing.
 use native.Mathlib.Omega.{arith}
-use Prim.Native.Nat.{ℕ, _%_}
+use Prim.Native.Nat.{_%_}
 use mathlib.Core.Path.{_≡_}
-use mathlib.Core.Path.{refl}
 use Rattle.fdc.proofs.lines.motor_weight.Statement.{statement}
 use Rattle.fdc.proofs.lines.motor_weight.Tie as tie
 

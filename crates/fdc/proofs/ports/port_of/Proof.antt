@@ -1,7 +1,6 @@
 -- `fdc::ports::port_of` meets its contract.
 -- Assumes nothing.
 use borrow.Author.Tests.{ne-eqb}
-use mathlib.Core.Path.{refl}
 use Rattle.fdc.specs.Calls.{portOf}
 use Rattle.fdc.proofs.ports.port_of.Statement.{statement}
 use Rattle.fdc.proofs.ports.port_of.Tie as tie

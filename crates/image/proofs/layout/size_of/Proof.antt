@@ -2,7 +2,7 @@
 -- Assumes nothing.
 use Rattle.image.specs.Layout.{sizeOf}
 use native.Mathlib.Omega.{arith}
-use Prim.Native.Nat.{ℕ, _%_}
+use Prim.Native.Nat.{_%_}
 use mathlib.Core.Path.{_≡_, refl}
 use Rattle.image.proofs.layout.size_of.Statement.{statement}
 use Rattle.image.proofs.layout.size_of.Tie as tie

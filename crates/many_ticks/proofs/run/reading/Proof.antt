@@ -1,6 +1,5 @@
 -- `many_ticks::run::reading` meets its contract.
 -- Assumes nothing.
-use mathlib.Core.Path.{_≡_, refl, sym, _∙_}
 use Rattle.many_ticks.proofs.StreamLaws.{reads-ticks}
 use borrow.Author.Needs.{needs}
 use Rattle.many_ticks.proofs.run.reading.Statement.{statement}

@@ -6,7 +6,7 @@ use native.Mathlib.Omega.{arith}
 use mathlib.Core.Path.{_≡_, refl, sym, ap, _∙_}
 use lib.ListN.{length}
 use borrow.Author.Needs.{needs}
-use Rattle.many_ticks.specs.Run.{Ran, ranOf, runOf}
+use Rattle.many_ticks.specs.Run.{ranOf, runOf}
 use Rattle.many_ticks.proofs.RunLaws.{image-length, finished, goes-on, stops, parts}
 use Rattle.many_ticks.proofs.run.run.Statement.{statement}
 use Rattle.many_ticks.proofs.run.run.Tie as tie

@@ -1,6 +1,5 @@
 -- `many_ticks::run::storing` meets its contract.
 -- Assumes nothing.
-use mathlib.Core.Path.{_≡_, refl, sym, _∙_}
 use Rattle.many_ticks.proofs.SectorLaws.{stored-parts}
 use Rattle.many_ticks.proofs.StreamLaws.{stores-ticks}
 use borrow.Author.Needs.{needs}

@@ -1,6 +1,6 @@
 -- `many_ticks::run::ticks` meets its contract.
 -- Assumes nothing.
-use mathlib.Core.Path.{_≡_, refl, sym, _∙_}
+use mathlib.Core.Path.{refl, sym, _∙_}
 use Rattle.many_ticks.specs.Run.{ticksOf}
 use borrow.Author.Needs.{needs}
 use Rattle.many_ticks.proofs.run.ticks.Statement.{statement}

@@ -1,11 +1,10 @@
 -- `many_ticks::sector::read_bytes` meets its contract. The loop's invariant: the ticks left, made from where the loop stands,
 -- end where all of them end from the start. The measure is the ticks left.
 -- Assumes nothing.
-use Prim.Native.Nat.{_+_, _≤_, _<_}
+use Prim.Native.Nat.{_+_, _<_}
 use native.Mathlib.Omega.{arith}
 use mathlib.Core.Path.{_≡_, refl, sym, _∙_}
 use borrow.Author.Needs.{needs}
-use Rattle.image.proofs.LayoutLaws.{size-le}
 use Rattle.many_ticks.specs.Sector.{readsOf}
 use Rattle.many_ticks.proofs.SectorLaws.{read-room, read-over, read-rested, read-turned, read-on}
 use Rattle.many_ticks.proofs.sector.read_bytes.Statement.{statement}

@@ -1,7 +1,7 @@
 -- `many_ticks::sector::stores` meets its contract. The loop's invariant: the ticks left, made from where the loop stands, end
 -- where all of them end from the start. The measure is the ticks left.
 -- Assumes nothing.
-use Prim.Native.Nat.{_≤_, _<_}
+use Prim.Native.Nat.{_<_}
 use native.Mathlib.Omega.{arith}
 use mathlib.Core.Path.{_≡_, refl, sym, ap, _∙_}
 use lib.ListN.{length}

@@ -1,7 +1,6 @@
 -- `replay::run::gathered` is safe and ends: a turn for each byte.
 -- Assumes nothing.
 use Prim.Native.Nat.{_-_}
-use lib.ListN.{length}
 use borrow.Author.Needs.{needs}
 use Rattle.replay.proofs.run.gathered.Statement.{statement}
 use Rattle.replay.proofs.run.gathered.Tie as tie

@@ -2,7 +2,6 @@
 -- Assumes nothing.
 use Rattle.image.proofs.LayoutLaws.{product-le}
 use Prim.Native.Nat.{_+_}
-use mathlib.Core.Path.{refl}
 use native.Mathlib.Omega.{arith}
 use borrow.Author.Needs.{needs}
 use Rattle.image.proofs.layout.Geometry.slots_length.Statement.{statement}
