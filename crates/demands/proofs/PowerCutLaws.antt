@@ -34,7 +34,7 @@ use Rattle.sectors.specs.declared.work.Then.the-variants.{Ends, Works}
 use Rattle.sectors.specs.declared.work.Work.the-variants.{Identifying, Moving, Formatting}
 use Rattle.engine.specs.First.{changes, gateOf, movingOf, startOf, enteredOf, beginOf}
 use Rattle.sectors.specs.Result.{endOf, moveEnd, moveFails}
-use Rattle.engine.specs.Step.{lostOf, workOf, goOnOf, passFlow}
+use Rattle.engine.specs.Step.{toHost, lostOf, workOf, goOnOf, passFlow}
 use Rattle.sectors.specs.Track.{hasTrack, staysOf}
 use Rattle.fdc.specs.declared.record.Controller.{Controller}
 use Rattle.fdc.specs.declared.record.Phase.{Phase}
@@ -43,7 +43,7 @@ use Rattle.fdc.specs.declared.ticks.Decision.{Decision}
 use Rattle.fdc.proofs.GoodLaws.{Suits}
 use Rattle.fdc.specs.Answer.{answerOf}
 use Rattle.fdc.specs.Commands.{answeredOf}
-use Rattle.fdc.specs.Data.{phaseToHost, phaseHears, toHost}
+use Rattle.fdc.specs.Data.{phaseToHost, phaseHears}
 use Rattle.fdc.specs.Record.{driveAt, withFifo, withPhase}
 use Rattle.fdc.specs.Registers.{motorIn}
 use Rattle.fdc.specs.Runs.{Call, powers, reads, writes, takes, gives, ticks, notes, answerTo, after}
