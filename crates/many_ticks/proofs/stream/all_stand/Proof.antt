@@ -10,4 +10,13 @@ all-stand-spec =
     (tie.spec
     (λ c. search needs) (λ c. search needs) (λ c. search needs) (λ c. search needs) (λ c κs. search needs)
     (λ c κs. search needs) (λ c κs. search needs) (λ c κs. search needs)
-    (λ c. (rw (c .before .before .before .stands .ensures, c .before .before .stands2 .ensures, c .before .stands3 .ensures, c .stands4 .ensures), search needs)))
+    (λ c. (
+      rw (
+        c .before .before .before .stands .ensures,
+        c .before .before .stands2 .ensures,
+        c .before .stands3
+            .ensures,
+        c .stands4 .ensures,
+      ),
+      search needs,
+    )))

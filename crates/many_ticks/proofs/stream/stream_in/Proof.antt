@@ -11,5 +11,13 @@ stream-in-spec =
     tie.close
     (tie.spec
     (λ c κs. search needs) (λ c κs. search needs) (λ c κs. search needs)
-    (λ c. (rw (← c .before .before .before .rests .ensures .0, c .before .before .if1 .taken, ← c .before .phase-stream .ensures) (c .keep .ensures), c .before .before .before .rests .ensures .1))
+    (λ c. (
+      rw (
+        ← c .before .before .before .rests .ensures .0,
+        c .before .before .if1 .taken,
+        ← c .before .phase-stream
+            .ensures,
+      ) (c .keep .ensures),
+      c .before .before .before .rests .ensures .1,
+    ))
     (λ c. (rw (← c .before .rests .ensures .0, c .if1 .left), c .before .rests .ensures .1)))

@@ -12,5 +12,7 @@ there-spec =
     tie.close
     (tie.spec
     (λ c κs. search needs) (λ c κs. search needs) (λ c κs. search needs)
-    (λ c. rw (← c .before .before .before .motor .ensures, c .before .before .if1 .taken, ← c .before .disk-in .ensures) (c .stays .ensures))
+    (λ c.
+    rw (← c .before .before .before .motor .ensures, c .before .before .if1 .taken, ← c .before .disk-in .ensures) (c
+    .stays .ensures))
     (λ c. rw (← c .before .motor .ensures, c .if1 .left)))
