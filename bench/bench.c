@@ -1,7 +1,8 @@
 /* Whole images read, written and formatted by DMA, on the library and on the model, by one and the same host: seek, then
  * each cylinder in one command (MT where there are two sides; Format by tracks), TC with the last byte; FIFO on, threshold 8.
  * The library is as the kit compiles it, at -O3; the model and this host have -O3 too, by another compiler. Time is the
- * processor's, the best of a few runs; DMA cycles and port accesses are in it: a read or write has a cycle for each tick, a format few. */
+ * processor's, the best of a few runs; DMA cycles and port accesses are in it: a read or write has a cycle for each tick,
+ * a format few. */
 #include <math.h>
 #include <stdbool.h>
 #include <stdio.h>
@@ -71,16 +72,16 @@ static void put_tag(uint8_t *at, uint8_t tag, size_t length)
 
 static struct image make_image(const struct geometry *g)
 {
-    struct image image;
+    struct image made;
     size_t sector = (size_t)128 << g->n, track = 5 + g->slots * (5 + sector);
     const uint8_t header[5] = { g->cylinders, g->sides, g->slots, g->n, 0 };
-    image.length = 8 + g->cylinders * g->sides * track + 3;
-    image.bytes = calloc(image.length, 1);
-    if (!image.bytes)
+    made.length = 8 + g->cylinders * g->sides * track + 3;
+    made.bytes = calloc(made.length, 1);
+    if (!made.bytes)
         abort();
-    put_tag(image.bytes, 1, 5);
-    memcpy(image.bytes + 3, header, 5);
-    uint8_t *at = image.bytes + 8;
+    put_tag(made.bytes, 1, 5);
+    memcpy(made.bytes + 3, header, 5);
+    uint8_t *at = made.bytes + 8;
     for (unsigned t = 0; t < (unsigned)g->cylinders * g->sides; t++) {
         put_tag(at, 2, track - 3);
         at[3] = (uint8_t)(t / g->sides);
@@ -94,7 +95,7 @@ static struct image make_image(const struct geometry *g)
         }
     }
     put_tag(at, 3, 0);
-    return image;
+    return made;
 }
 
 /* ---- the host ---- */

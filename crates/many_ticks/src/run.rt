@@ -8,7 +8,6 @@ use fdc::answer::Answer;
 use fdc::answer::Reply;
 use fdc::record::Controller;
 use fdc::record::Phase;
-use image::lent::pick;
 use sectors::work::Sector;
 use sectors::work::Site;
 use sectors::work::Stage;
