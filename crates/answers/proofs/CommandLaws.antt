@@ -29,7 +29,8 @@ use Rattle.fdc.specs.Record.{driveAt, withBytes, withDrive, withDrives}
 use Rattle.fdc.specs.Registers.{heldIn, anyBusy, dmaIn, reportAt, phaseStatus, msrOf}
 use Rattle.fdc.specs.Runs.{writes, ticks, answerTo, after}
 use Rattle.fdc.specs.Ticks.{seenOf, protectedIn, steppedOf, st3Of, sensedAt, stillOf, decideIn, decideOf, ruledOf}
-use Rattle.fdc.proofs.GoodLaws.{Good, good-reached}
+use Rattle.fdc.specs.Good.{Good}
+use Rattle.fdc.proofs.GoodLaws.{good-reached}
 use Rattle.answers.specs.CommandResults.{Said, Waits, reportOf, CommandResults}
 use Rattle.demands.specs.Work.{Real}
 use Rattle.answers.proofs.Answers.{real-reached}
@@ -55,7 +56,7 @@ module _ (c : Controller) (w : Waits c) where
   after-code code =
       rw (real-valid c (w .real), after) (rw (eq-eqb (msrOf c / 64) 2 in-turn, w .idle))
 
-  none-gathered : c .bytes .gathered ≡ 0
+  pub none-gathered : c .bytes .gathered ≡ 0
   none-gathered = (rw (w .idle) at (good .phase)) .0
 
   -- a command of one byte is complete at once
@@ -81,11 +82,11 @@ two-drives : (first second : ℕ) (e : Controller) → saidTwo first second e .d
 unfolding saidTwo answeredOf
 two-drives first second e = refl
 
-none-busy : (drives : List Drive) → ((k : ℕ) → k < 4 → driveAt k drives .busy ≡ false) → anyBusy drives ≡ false
+pub none-busy : (drives : List Drive) → ((k : ℕ) → k < 4 → driveAt k drives .busy ≡ false) → anyBusy drives ≡ false
 unfolding anyBusy
 none-busy drives n = simp (n 0 (omega arith), n 1 (omega arith), n 2 (omega arith), n 3 (omega arith))
 
-one-busy : (drives : List Drive) (k : ℕ) → k < 4 → driveAt k drives .busy ≡ true → anyBusy drives ≡ true
+pub one-busy : (drives : List Drive) (k : ℕ) → k < 4 → driveAt k drives .busy ≡ true → anyBusy drives ≡ true
 unfolding anyBusy
 one-busy drives k h =
     below k (λ (j : ℕ). driveAt j drives .busy ≡ true

@@ -1,8 +1,13 @@
+pub mod AcceptLaws
 pub mod Answers
 pub mod CheckedExamples
 pub mod CommandLaws
 pub mod EasyLaws
+pub mod FitLaws
 pub mod MountedLaws
+pub mod OnlyWritesLaws
+pub mod ProtectedLaws
+pub mod ReadsOutLaws
 pub mod RefusalLaws
 pub mod RegisterLaws
 pub mod ResetTableLaws

@@ -178,7 +178,7 @@ module _ (c : Controller) where
       go (Sensing unit) e h = absurd (false≢true h)
       go (Answering loud) e h = absurd (false≢true h)
 
-  requests-asks : Requests c → phaseAsks (c .phase) (c .fifo .asks) ≡ true
+  pub requests-asks : Requests c → phaseAsks (c .phase) (c .fifo .asks) ≡ true
   requests-asks (asks-for work e m h) = rw e (go work m)
     where
       go : (w : Work) → MovesBytes w → flowAsks (flowOf w) (c .fifo .asks) ≡ true
@@ -233,7 +233,7 @@ module _ (c : Controller) where
   gate-true : GateOn c → gateIn (c .registers .dor) ≡ true
   gate-true g = eq-eqb (c .registers .dor / 8 % 2) 1 (omega arith)
 
-  int-interrupts : intOf c ≡ true → GateOn c × Interrupts c
+  pub int-interrupts : intOf c ≡ true → GateOn c × Interrupts c
   unfolding intOf
   int-interrupts t =
       let (g, w) = both (gateIn (c .registers .dor)) _ t in (
@@ -252,7 +252,7 @@ module _ (c : Controller) where
           let (n, q) = both (not (dmaIn (c .registers .spec2))) _ e in
           of-request (not-dma n) (asks-requests q)
 
-  interrupts-int : GateOn c → Interrupts c → intOf c ≡ true
+  pub interrupts-int : GateOn c → Interrupts c → intOf c ≡ true
   unfolding intOf
   interrupts-int g (of-report k h n) =
       rw (

@@ -1,8 +1,11 @@
+pub mod Accepts
 pub mod Answers
 pub mod CheckedExamples
 pub mod CommandResults
 pub mod EasyToGetWrong
 pub mod Mounted
+pub mod OnlyWrites
+pub mod ReadsOut
 pub mod Refusals
 pub mod Registers
 pub mod Resets

@@ -59,7 +59,7 @@ use Rattle.engine.specs.Step.{siteOf, lostOf, workOf, goOnOf}
 use Rattle.sectors.specs.Track.{hasTrack, staysOf, nextSlot, markPlace, dataPlace, passBytes, sectorBytes}
 use Rattle.sectors.specs.Write.{writtenMark}
 use Rattle.demands.specs.EndsInTime.{boundOf}
-use Rattle.demands.proofs.CallRules.{ProperJob}
+use Rattle.demands.specs.Quiet.{ProperJob}
 use Rattle.demands.proofs.CountLaws.{bit, bit-le, count, count-le, count-ext, count-less, count-pos, near, near-self, near-next, near-gone}
 use Rattle.demands.proofs.TickRules.{marked, hits, endsWith, NextRule, stops, turns, steps, Rule, notFound, noData, noSide, late, misses, passes, toWrite, toRead, skips, turned-over, waits, begins, puts, pads, finishes, moves, moves-last, drains, data-error, other-kind, drained, transfer-rule}
 
@@ -337,12 +337,12 @@ end-falls : (g : Geometry) (img : List ℕ) (head m : ℕ) (verdict : Verdict) (
 end-falls g img head m verdict effect h = record { less = h; proper = tt }
 
 -- 01 Next
-module _ (img : List ℕ) (head slot : ℕ) (site : Site) (task : Task) (fifo : Fifo) (effect : Effect) where
-  next-left : (o : Step) → NextRule slot site task fifo effect o → Kept img head site (storedIn effect img)
+module _ (img : List ℕ) (head slot : ℕ) (site : Site) (task : Task) (fifo : Fifo) (effect : Effect) (tc : Bool) where
+  next-left : (o : Step) → NextRule tc slot site task fifo effect o → Kept img head site (storedIn effect img)
       → thenLeft (storedIn effect img) head (o .then) ≤ laterOf img site head task + 2 * site .disk .slots
   unfolding workLeft stageLeft
-  next-left o (stops v e) s = rw e (omega arith)
-  next-left o (turns a b c e) s =
+  next-left o (stops v n e) s = rw e (omega arith)
+  next-left o (turns t a b c e) s =
       rw (e, later-last img site head (task .id .r) (task .transfer .eot) a)
       (omega (
         arith,
@@ -350,7 +350,7 @@ module _ (img : List ℕ) (head slot : ℕ) (site : Site) (task : Task) (fifo : 
             (turns-one (site .disk) (task .transfer .mt) (site .side) b c),
         cost-is (site .disk),
       ))
-  next-left o (steps n e) s =
+  next-left o (steps t n e) s =
       rw (
         e,
         advanced-below (task .id) (task .transfer .eot) (task .transfer .mt) (site .side) n,
@@ -359,10 +359,10 @@ module _ (img : List ℕ) (head slot : ℕ) (site : Site) (task : Task) (fifo : 
       )
       (omega arith)
 
-  next-proper : (o : Step) → NextRule slot site task fifo effect o → ProperTask task → 0 < site .disk .slots
+  next-proper : (o : Step) → NextRule tc slot site task fifo effect o → ProperTask task → 0 < site .disk .slots
       → ProperThen (site .disk) (o .then)
-  next-proper o (stops v e) w h = rw e tt
-  next-proper o (turns a b c e) w h =
+  next-proper o (stops v n e) w h = rw e tt
+  next-proper o (turns t a b c e) w h =
       rw e (
         refl,
         (
@@ -370,7 +370,7 @@ module _ (img : List ℕ) (head slot : ℕ) (site : Site) (task : Task) (fifo : 
           (next-slot-below slot (site .disk .slots) h, refl),
         ),
       )
-  next-proper o (steps n e) w h =
+  next-proper o (steps t n e) w h =
       rw e (
         refl,
         (
@@ -382,7 +382,7 @@ module _ (img : List ℕ) (head slot : ℕ) (site : Site) (task : Task) (fifo : 
         ),
       )
 
-  next-falls : (m : ℕ) (o : Step) → NextRule slot site task fifo effect o → ProperTask task → 0 < site .disk .slots
+  next-falls : (m : ℕ) (o : Step) → NextRule tc slot site task fifo effect o → ProperTask task → 0 < site .disk .slots
       → Kept img head site (storedIn effect img) → laterOf img site head task + 2 * site .disk .slots < m
       → o .effect ≡ effect → Falls (site .disk) img head m o
   next-falls m o r w h s l e = record {
@@ -390,10 +390,10 @@ module _ (img : List ℕ) (head slot : ℕ) (site : Site) (task : Task) (fifo : 
     proper = next-proper o r w h;
   }
 
-  next-effect : (o : Step) → NextRule slot site task fifo effect o → o .effect ≡ effect
-  next-effect o (stops v e) = ap (λ (s : Step). s .effect) e
-  next-effect o (turns a b c e) = ap (λ (s : Step). s .effect) e
-  next-effect o (steps n e) = ap (λ (s : Step). s .effect) e
+  next-effect : (o : Step) → NextRule tc slot site task fifo effect o → o .effect ≡ effect
+  next-effect o (stops v n e) = ap (λ (s : Step). s .effect) e
+  next-effect o (turns t a b c e) = ap (λ (s : Step). s .effect) e
+  next-effect o (steps t n e) = ap (λ (s : Step). s .effect) e
 
 -- every tick of a transfer
 module _ (head : ℕ) (img : List ℕ) (efifo : Bool) (fifothr : ℕ) (site : Site) (task : Task) (fifo : Fifo)
@@ -405,13 +405,13 @@ module _ (head : ℕ) (img : List ℕ) (efifo : Bool) (fifothr : ℕ) (site : Si
   rule-falls : (stage : Stage) (o : Step) → Rule head img efifo fifothr site task fifo stage o → ProperStage site stage
       → Falls (site .disk) img head (stageLeft img head site task stage) o
   unfolding workLeft stageLeft
-  rule-falls stage o (notFound look verdict p h l k e) q =
+  rule-falls stage o (notFound look verdict p h l k x y f e) q =
       rw e (end-falls _ img head _ verdict Nothing (stage-pos img head site task stage q))
-  rule-falls stage o (noData look verdict p h k m e) q =
+  rule-falls stage o (noData look verdict p h k m f e) q =
       rw e (end-falls _ img head _ verdict Nothing (stage-pos img head site task stage q))
-  rule-falls stage o (noSide slot verdict p e) q =
+  rule-falls stage o (noSide slot verdict p ns f e) q =
       rw e (end-falls _ img head _ verdict Nothing (stage-pos img head site task stage q))
-  rule-falls stage o (late verdict v e) q =
+  rule-falls stage o (late verdict f l e) q =
       rw e (end-falls _ img head _ verdict Nothing (stage-pos img head site task stage q))
   rule-falls stage o (misses look on p h l a b e) q =
       let q′ = rw p at q in
@@ -425,17 +425,17 @@ module _ (head : ℕ) (img : List ℕ) (efifo : Bool) (fifothr : ℕ) (site : Si
         less = omega (arith, paid img head site task (look .slot) w (q′ .0) h);
         proper = (refl, (w, (q′ .0, omega arith)));
       })
-  rule-falls stage o (toRead look deleted broken other p h k m n e) q =
+  rule-falls stage o (toRead look deleted broken other p h k m n ns e) q =
       let q′ = rw p at q in
       rw (e, p) (record {
         less = omega (arith, paid img head site task (look .slot) w (q′ .0) h);
         proper = (refl, (w, (q′ .0, omega (arith, size-ge (site .disk .n)))));
       })
-  rule-falls stage o (skips look deleted broken p h k m n r) q =
+  rule-falls stage o (skips look deleted broken p h k m n z r) q =
       let q′ = rw p at q in
-      rw p (next-falls img head (look .slot) site _ fifo Nothing _ o r w some all-kept
+      rw p (next-falls img head (look .slot) site _ fifo Nothing _ _ o r w some all-kept
       (omega (arith, paid img head site task (look .slot) w (q′ .0) h))
-      (next-effect img head (look .slot) site _ fifo Nothing o r))
+      (next-effect img head (look .slot) site _ fifo Nothing _ o r))
   rule-falls stage o (turned-over slot p e) q =
       let q′ = rw p at q in
       let K = cost (site .disk) in
@@ -477,26 +477,26 @@ module _ (head : ℕ) (img : List ℕ) (efifo : Bool) (fifothr : ℕ) (site : Si
       })
   rule-falls stage o (finishes slot done p l r) q =
       let q′ = rw p at q in
-      rw p (next-falls img head slot site task fifo _ _ o r w some
+      rw p (next-falls img head slot site task fifo _ _ _ o r w some
       (mark-apart img head site slot (writtenMark false task))
-      (omega arith) (next-effect img head slot site task fifo _ o r))
-  rule-falls stage o (moves sector done f p l e) q =
+      (omega arith) (next-effect img head slot site task fifo _ _ o r))
+  rule-falls stage o (moves sector done f p l x e) q =
       let q′ = rw p at q in
       rw (e, p) (record { less = omega arith; proper = (refl, (w, (q′ .0, l))) })
-  rule-falls stage o (moves-last sector done f p l e) q =
+  rule-falls stage o (moves-last sector done f p l x e) q =
       let q′ = rw p at q in
       rw (e, p) (record { less = omega arith; proper = (refl, (w, (q′ .0, omega arith))) })
   rule-falls stage o (drains sector looks p l e) q =
       let q′ = rw p at q in
       rw (e, p) (record { less = omega arith; proper = (refl, (w, (q′ .0, omega arith))) })
-  rule-falls stage o (data-error sector looks verdict p b s t e) q =
+  rule-falls stage o (data-error sector looks verdict p b s f e) q =
       rw e (end-falls _ img head _ verdict Nothing (stage-pos img head site task stage q))
-  rule-falls stage o (other-kind sector looks verdict p b e) q =
+  rule-falls stage o (other-kind sector looks verdict p b z ok os e) q =
       rw e (end-falls _ img head _ verdict Nothing (stage-pos img head site task stage q))
-  rule-falls stage o (drained sector looks p b r) q =
+  rule-falls stage o (drained sector looks p b ok zc r) q =
       let q′ = rw p at q in
-      rw p (next-falls img head (sector .slot) site task fifo Nothing _ o r w some all-kept
-      (omega arith) (next-effect img head (sector .slot) site task fifo Nothing o r))
+      rw p (next-falls img head (sector .slot) site task fifo Nothing _ _ o r w some all-kept
+      (omega arith) (next-effect img head (sector .slot) site task fifo Nothing _ o r))
 
 -- 01 Read ID
 module _ (img : List ℕ) (head : ℕ) (site : Site) (fifo : Fifo) (slot round : ℕ)

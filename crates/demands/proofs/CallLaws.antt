@@ -6,14 +6,14 @@ use native.Mathlib.Omega.{arith}
 use mathlib.Core.Bool.{Bool, true, false, not, _&&_, cond, false≢true, and-false}
 use mathlib.Core.List.{List}
 use mathlib.Core.Logic.{_⊎_, inl, inr}
-use mathlib.Core.Path.{_≡_, refl, sym, ap, _∙_}
+use mathlib.Core.Path.{_≡_, refl, sym, ap, _∙_, subst}
 use lib.Dec.{eqb, leb}
 use lib.ListN.{length, set}
 use lib.Seq.{getD-set-same, getD-set-other}
 use borrow.Author.Tests.{eqb-true, eqb-false, eq-eqb, ne-eqb}
 use Rattle.image.proofs.TestLaws.{by-test, both, le-or-lt}
 use Rattle.image.specs.Lent.{pickOf}
-use Rattle.chip.specs.Fifo.{takenOf, givenOf}
+use Rattle.chip.specs.Fifo.{frontOf, takenOf, givenOf}
 use Rattle.drive.specs.declared.Drive.{Drive}
 use Rattle.drive.specs.Drive.{notedOf}
 use Rattle.engine.specs.declared.flow.Flow.{Flow}
@@ -59,20 +59,11 @@ use Rattle.fdc.specs.Reset.{resetOf, releasedBy, releasedOf, withDor, withTdr, 
 use Rattle.fdc.specs.Runs.{Call, powers, reads, writes, takes, gives, ticks, notes, answerTo, after}
 use Rattle.fdc.specs.Ticks.{seenOf, decidedOf, startOf, workOf, decideIn, decideOf, ruledOf, tickOf}
 use Rattle.fdc.proofs.GoodLaws.{good-valid}
+use Rattle.demands.specs.HandedOver.{Taken, tookOne, tookBy, takenBy}
 use Rattle.demands.specs.History.{History, handed, taken, historyBy}
 use Rattle.demands.specs.Work.{atWork}
-use Rattle.demands.proofs.CallRules.{
-  Quiet,
-  NoTick,
-  FifoRule,
-  same,
-  took,
-  gave,
-  Keeps,
-  CallRule,
-  cut-off,
-  goes-on,
-}
+use Rattle.demands.proofs.CallRules.{NoTick, FifoRule, same, MayTake, TakenRule, none-taken, one-taken, took, gave, Keeps, CallRule, cut-off, goes-on}
+use Rattle.demands.specs.Quiet.{Quiet}
 use Rattle.demands.proofs.QuietLaws.{quiet-stepped, quiet-free}
 
 -- the tick
@@ -120,9 +111,11 @@ quiet-turn : (n busy : ℕ) → busy < 16 → 2 ≤ n → eqb ((0x10 + busy) / 6
 quiet-turn n busy h some e = let z : (0x10 + busy) / 64 ≡ n = eqb-true _ n e in omega arith
 
 read-turn : (f : Flow) (dma asks : Bool) (busy : ℕ) → busy < 16 → eqb ((flowStatus f dma asks + busy) / 64) 3 ≡ true
-    → toHost f ≡ true
+    → (toHost f ≡ true) × (asks ≡ true)
 read-turn flow.Quiet dma asks busy h e = absurd (quiet-turn 3 busy h (omega arith) e)
-read-turn flow.ToHost dma asks busy h e = refl
+read-turn flow.ToHost true asks busy h e = absurd (quiet-turn 3 busy h (omega arith) e)
+read-turn flow.ToHost false true busy h e = (refl, refl)
+read-turn flow.ToHost false false busy h e = let z : (0x70 + busy) / 64 ≡ 3 = eqb-true _ 3 e in absurd (omega arith)
 read-turn flow.FromHost true asks busy h e = absurd (quiet-turn 3 busy h (omega arith) e)
 read-turn flow.FromHost false true busy h e = let z : (0xB0 + busy) / 64 ≡ 3 = eqb-true _ 3 e in absurd (omega arith)
 read-turn flow.FromHost false false busy h e = let z : (0x30 + busy) / 64 ≡ 3 = eqb-true _ 3 e in absurd (omega arith)
@@ -153,7 +146,7 @@ keeps-fifo fifo c = record { phase = refl; heads = λ k h. refl; efifo = refl; f
 
 -- `CallRule`, with why a command is cut off: no calm call does it
 data Ruled (call : Call) (c e : Controller) : Type 0 where
-  cut : (Calm call → ⊥) → atWork (e .phase) ≡ false → ((h : History) → historyBy call c h ≡ h) → Ruled call c e
+  cut : (Calm call → ⊥) → e .phase ≡ Idle → ((h : History) → historyBy call c h ≡ h) → Ruled call c e
   on : Keeps c e → FifoRule call c e → Ruled call c e
 
 abbrev Left : Call → Controller → Answer → Type 0
@@ -164,9 +157,9 @@ module _ (call : Call) (c : Controller) (none : (h : History) → historyBy call
   left-same : Ruled call c c
   left-same = on (keeps c) (same refl none)
 
-  left-took : (tc : Bool) → phaseToHost (c .phase) ≡ true → Ruled call c (withFifo (takenOf tc (c .fifo)) c)
+  left-took : (tc : Bool) → MayTake call → phaseToHost (c .phase) ≡ true → Ruled call c (withFifo (takenOf tc (c .fifo)) c)
   unfolding withFifo
-  left-took tc h = on (keeps-fifo _ c) (took tc h refl none)
+  left-took tc m h = on (keeps-fifo _ c) (took tc m h refl none)
 
 -- a phase at work is one of two
 at-work : (P : Phase → Type 0) (p : Phase) → atWork p ≡ true → ((order : Order) → P (Starting order))
@@ -180,13 +173,13 @@ at-work P (Answering loud) w f g = absurd (false≢true w)
 
 module _ (c : Controller) (q : Quiet c) (w : atWork (c .phase) ≡ true) where
   -- a read of the FIFO that is not refused takes a byte of a transfer to the host
-  reads-work : eqb (msrOf c / 64) 3 ≡ true → phaseToHost (c .phase) ≡ true
+  reads-work : eqb (msrOf c / 64) 3 ≡ true → (phaseToHost (c .phase) ≡ true) × (c .fifo .asks ≡ true)
   reads-work e =
       go (c .phase) w (rw (msr-free c (quiet-free c q w)) at e)
     where
       go : (p : Phase) → atWork p ≡ true
           → eqb ((phaseStatus p (dmaIn (c .registers .spec2)) (c .fifo .asks) + busyBits (c .drives)) / 64) 3 ≡ true
-          → phaseToHost p ≡ true
+          → (phaseToHost p ≡ true) × (c .fifo .asks ≡ true)
       go Idle w e = absurd (false≢true w)
       go (Gathering entry) w e = absurd (false≢true w)
       go (Starting order) w e = absurd (quiet-turn 3 _ (busy-below (c .drives)) (omega arith) e)
@@ -210,32 +203,36 @@ module _ (c : Controller) (q : Quiet c) (w : atWork (c .phase) ≡ true) where
       go (Answering loud) w e = absurd (false≢true w)
 
   -- 01 Registers DRQ: a line that is on with a direction is a request
-  drq-asks : drqOf c ≡ true → phaseFromHost (c .phase) ≡ true → c .fifo .asks ≡ true
+  drq-asks : drqOf c ≡ true → (phaseFromHost (c .phase) ≡ true) ⊎ (phaseToHost (c .phase) ≡ true) → c .fifo .asks ≡ true
   unfolding drqOf
   drq-asks e h =
       let asks : Bool = phaseAsks (c .phase) (c .fifo .asks) in
       go (c .phase) h (both (gateIn (c .registers .dor) && dmaIn (c .registers .spec2)) asks e .1)
     where
-      flows : (f : Flow) → fromHost f ≡ true → flowAsks f (c .fifo .asks) ≡ true → c .fifo .asks ≡ true
-      flows flow.Quiet h e = absurd (false≢true h)
-      flows flow.ToHost h e = absurd (false≢true h)
+      neither : (false ≡ true) ⊎ (false ≡ true) → ⊥
+      neither (inl z) = false≢true z
+      neither (inr z) = false≢true z
+
+      flows : (f : Flow) → (fromHost f ≡ true) ⊎ (toHost f ≡ true) → flowAsks f (c .fifo .asks) ≡ true → c .fifo .asks ≡ true
+      flows flow.Quiet h e = absurd (neither h)
+      flows flow.ToHost h e = e
       flows flow.FromHost h e = e
 
-      go : (p : Phase) → phaseFromHost p ≡ true → phaseAsks p (c .fifo .asks) ≡ true → c .fifo .asks ≡ true
-      go Idle h e = absurd (false≢true h)
-      go (Gathering entry) h e = absurd (false≢true h)
-      go (Starting order) h e = absurd (false≢true h)
+      go : (p : Phase) → (phaseFromHost p ≡ true) ⊎ (phaseToHost p ≡ true) → phaseAsks p (c .fifo .asks) ≡ true → c .fifo .asks ≡ true
+      go Idle h e = absurd (neither h)
+      go (Gathering entry) h e = absurd (neither h)
+      go (Starting order) h e = absurd (neither h)
       go (Working work) h e = flows (flowOf work) h e
-      go (Sensing unit) h e = absurd (false≢true h)
-      go (Answering loud) h e = absurd (false≢true h)
+      go (Sensing unit) h e = absurd (neither h)
+      go (Answering loud) h e = absurd (neither h)
 
-  left-read-in : (call : Call) → ((h : History) → historyBy call c h ≡ h) → phaseToHost (c .phase) ≡ true
+  left-read-in : (call : Call) → MayTake call → ((h : History) → historyBy call c h ≡ h) → phaseToHost (c .phase) ≡ true
       → Left call c (readIn (c .phase) c)
   unfolding readIn answerOf
-  left-read-in call none t =
+  left-read-in call m none t =
       at-work (λ (p : Phase). Left call c (readIn p c)) (c .phase) w
       (λ order. left-same call c none)
-      (λ work. left-took call c none false t)
+      (λ work. left-took call c none false m t)
 
   left-read : (offset : ℕ) (p : Port) → Left (reads offset) c (readReg p c)
   unfolding readReg readFifo answerOf historyBy
@@ -245,7 +242,7 @@ module _ (c : Controller) (q : Quiet c) (w : atWork (c .phase) ≡ true) where
   left-read offset Status = left-same (reads offset) c (λ h. refl)
   left-read offset Data =
       by-test (eqb (msrOf c / 64) 3) (Left (reads offset) c) _ _
-      (λ e. left-read-in (reads offset) (λ h. refl) (reads-work e))
+      (λ e. left-read-in (reads offset) tt (λ h. refl) (reads-work e .0))
       (λ _. left-same (reads offset) c (λ h. refl))
   left-read offset Input = left-same (reads offset) c (λ h. refl)
 
@@ -351,7 +348,7 @@ module _ (offset byte : ℕ) (c : Controller) (q : Quiet c) (w : atWork (c .phas
       by-test (eqb (byte / 128) 1 && not (heldIn (c .registers .dor))) Wrote _ _
       (λ t. cut
       (λ calm. false≢true (sym (calm .1 o) ∙ both (eqb (byte / 128) 1) (not (heldIn (c .registers .dor))) t .0))
-      (by-test (c .registers .poll) (λ (e : Controller). atWork (e .phase) ≡ false) _ _ (λ _. refl) (λ _. refl))
+      (by-test (c .registers .poll) (λ (e : Controller). e .phase ≡ Idle) _ _ (λ _. refl) (λ _. refl))
       (elsewhere (λ x. omega arith)))
       (λ _. on (record { phase = refl; heads = λ k h. refl; efifo = refl; fifothr = refl })
       (same refl (elsewhere (λ x. omega arith))))
@@ -394,7 +391,7 @@ module _ (c : Controller) (q : Quiet c) (w : atWork (c .phase) ≡ true) where
   unfolding dmaReadOf answerOf historyBy
   left-takes tc =
       by-test (drqOf c && phaseToHost (c .phase)) (Left (takes tc) c) _ _
-      (λ t. left-took (takes tc) c (λ h. refl) tc (both (drqOf c) (phaseToHost (c .phase)) t .1))
+      (λ t. left-took (takes tc) c (λ h. refl) tc tt (both (drqOf c) (phaseToHost (c .phase)) t .1))
       (λ _. left-same (takes tc) c (λ h. refl))
 
   gives-answered : (byte : ℕ) (tc : Bool) → answerTo (gives byte tc) c ≡ dmaWriteOf byte tc c
@@ -417,7 +414,7 @@ module _ (c : Controller) (q : Quiet c) (w : atWork (c .phase) ≡ true) where
       by-test (drqOf c && phaseFromHost (c .phase)) (Left (gives byte tc) c) _ _
       (λ t. let (line, from) = both (drqOf c) (phaseFromHost (c .phase)) t in
       on (record { phase = refl; heads = λ k h. refl; efifo = refl; fifothr = refl })
-      (gave byte tc from (drq-asks c q w line from) refl (gives-done byte tc t)))
+      (gave byte tc from (drq-asks c q w line (inl from)) refl (gives-done byte tc t)))
       (λ f. left-same (gives byte tc) c (gives-refused byte tc f))
 
 -- the disk-change note
@@ -440,10 +437,10 @@ left-notes drive k c long =
     heads j l = go j l (le-or-lt j k) (le-or-lt k j)
 
 -- power-on begins anew
-powered : (head0 head1 : ℕ) → atWork (powerOn head0 head1 .controller .phase) ≡ false
+powered : (head0 head1 : ℕ) → powerOn head0 head1 .controller .phase ≡ Idle
 unfolding powerOn answerOf freshOf
 powered head0 head1 =
-    by-test (leb head0 81 && leb head1 81) (λ (a : Answer). atWork (a .controller .phase) ≡ false) _ _ (λ _. refl)
+    by-test (leb head0 81 && leb head1 81) (λ (a : Answer). a .controller .phase ≡ Idle) _ _ (λ _. refl)
     (λ _. refl)
 
 ruled : (call : Call) (c : Controller) → Quiet c → atWork (c .phase) ≡ true → NoTick call
@@ -489,3 +486,70 @@ calm-keeps call c q w n calm = of-ruled (ruled call c q w n)
 pub after-tick : (a b : List ℕ) (c : Controller) → after (ticks a b) c ≡ ruledOf a b c .controller
 unfolding answerTo tickOf answerOf
 after-tick a b c = refl
+
+-- what an answer to a cycle to the host, or to a read of the FIFO, hands over
+data TakeRule (tc : Bool) (c : Controller) (a : Answer) : Type 0 where
+  withholds : a .controller .fifo ≡ c .fifo → ((t : Taken) → tookBy tc (a .reply) t ≡ t) → TakeRule tc c a
+  hands : phaseToHost (c .phase) ≡ true → c .fifo .asks ≡ true → a .controller .fifo ≡ takenOf tc (c .fifo)
+      → ((t : Taken) → tookBy tc (a .reply) t ≡ tookOne (frontOf (c .fifo)) tc t) → TakeRule tc c a
+
+module _ (c : Controller) (q : Quiet c) (w : atWork (c .phase) ≡ true) where
+  takes-hands : (tc : Bool) → TakeRule tc c (answerTo (takes tc) c)
+  unfolding answerTo dmaRead dmaReadOf answerOf withFifo
+  takes-hands tc =
+      by-test (validOf c) (TakeRule tc c) _ _
+      (λ _. by-test (drqOf c && phaseToHost (c .phase)) (TakeRule tc c) _ _
+      (λ t. let (line, to) = both (drqOf c) (phaseToHost (c .phase)) t in
+      hands to (drq-asks c q w line (inr to)) refl (λ t. refl))
+      (λ _. withholds refl (λ t. refl)))
+      (λ _. withholds refl (λ t. refl))
+
+  read-hands : TakeRule false c (readReg Data c)
+  unfolding readReg readFifo readIn answerOf withFifo
+  read-hands =
+      by-test (eqb (msrOf c / 64) 3) (TakeRule false c) _ _
+      (λ e. at-work (λ (p : Phase). TakeRule false c (readIn p c)) (c .phase) w
+      (λ order. withholds refl (λ t. refl))
+      (λ work. hands (reads-work c q w e .0) (reads-work c q w e .1) refl (λ t. refl)))
+      (λ _. withholds refl (λ t. refl))
+
+  reads-answered : (offset : ℕ) → answerTo (reads offset) c ≡ readReg (portOf offset) c
+  unfolding answerTo readPort
+  reads-answered offset = rw (good-valid c (q .good))
+
+  reads-elsewhere : (offset : ℕ) → (offset ≡ 5 → ⊥) → (t : Taken) → takenBy (reads offset) c t ≡ t
+  unfolding takenBy
+  reads-elsewhere offset n t = simp (ne-eqb offset 5 n)
+
+  reads-here : (offset : ℕ) → offset ≡ 5 → (a : Answer) → answerTo (reads offset) c ≡ a → TakeRule false c a
+      → TakenRule (reads offset) c (a .controller)
+  unfolding takenBy
+  reads-here offset o a e (withholds f n) = none-taken f (λ t. simp (eq-eqb offset 5 o, e, n t))
+  reads-here offset o a e (hands to asks f n) = one-taken false to asks f (λ t. simp (eq-eqb offset 5 o, e, n t))
+
+  reads-rule : (offset : ℕ) (p : Port) → portOf offset ≡ p → AtPort p offset
+      → TakenRule (reads offset) c (readReg p c .controller)
+  unfolding readReg answerOf
+  reads-rule offset None e n = none-taken refl (reads-elsewhere offset n)
+  reads-rule offset Dor e n = none-taken refl (reads-elsewhere offset (λ x. omega arith))
+  reads-rule offset Tdr e n = none-taken refl (reads-elsewhere offset n)
+  reads-rule offset Status e n = none-taken refl (reads-elsewhere offset (λ x. omega arith))
+  reads-rule offset Data e n =
+      reads-here offset n (readReg Data c) (reads-answered offset ∙ ap (λ (p : Port). readReg p c) e) read-hands
+  reads-rule offset Input e n = none-taken refl (reads-elsewhere offset n)
+
+  takes-rule : (tc : Bool) → TakeRule tc c (answerTo (takes tc) c) → TakenRule (takes tc) c (after (takes tc) c)
+  unfolding takenBy
+  takes-rule tc (withholds f n) = none-taken f n
+  takes-rule tc (hands to asks f n) = one-taken tc to asks f n
+
+  pub taken-rule : (call : Call) → MayTake call → TakenRule call c (after call c)
+  taken-rule (powers head0 head1) m = absurd m
+  taken-rule (reads offset) m =
+      subst (λ (a : Answer). TakenRule (reads offset) c (a .controller)) (sym (reads-answered offset))
+      (reads-rule offset (portOf offset) refl (port-at offset))
+  taken-rule (writes offset byte) m = absurd m
+  taken-rule (takes tc) m = takes-rule tc (takes-hands tc)
+  taken-rule (gives byte tc) m = absurd m
+  taken-rule (ticks a b) m = absurd m
+  taken-rule (notes drive) m = absurd m

@@ -1,15 +1,16 @@
 -- A write command at work, tick by tick, at the engine's level: what it has left of the image so far, and where it
 -- stands (01 Search, Write, Next).
 -- Assumes nothing.
-use Prim.Native.Nat.{ℕ, zero, suc, _+_, _*_, _≤_, _<_}
+use Prim.Native.Nat.{ℕ, zero, suc, _+_, _-_, _*_, _≤_, _<_}
 use native.Mathlib.Omega.{arith}
-use mathlib.Core.Bool.{Bool, true, false, false≢true}
+use mathlib.Core.Bool.{Bool, true, false, _&&_, false≢true}
 use mathlib.Core.List.{List, [], _∷_, _++_}
+use mathlib.Core.Logic.{_⊎_, inl, inr}
 use mathlib.Core.Path.{_≡_, refl, sym, ap, _∙_, subst}
 use lib.Dec.{eqb, ltb}
 use lib.ListN.{length, getD, set, length-append}
 use borrow.Author.Tests.{ltb-true, eqb-true, eq-eqb, ne-eqb}
-use Rattle.image.proofs.TestLaws.{by-test, both}
+use Rattle.image.proofs.TestLaws.{by-test, both, le-or-lt}
 use Rattle.image.specs.declared.layout.Geometry.{Geometry}
 use Rattle.image.specs.declared.lent.Effect.the-variants.{Nothing, Store}
 use Rattle.image.specs.declared.mark.Mark.the-variants.{Data}
@@ -21,6 +22,7 @@ use Rattle.image.specs.Mark.{byteOf, markOf}
 use Rattle.image.specs.Slot.{idAt}
 use Rattle.chip.specs.declared.fifo.Fifo.{Fifo}
 use Rattle.chip.specs.Fifo.{held, frontOf, drawnOf}
+use Rattle.chip.specs.Next.{advancedOf}
 use Rattle.chip.specs.Fifo.{Fits as FitsFifo}
 use Rattle.sectors.specs.declared.order.Pass.{Pass}
 use Rattle.sectors.specs.declared.order.Pass.the-variants.{Read, Write}
@@ -35,26 +37,29 @@ use Rattle.sectors.specs.declared.work.Then.the-variants.{Ends, Works}
 use Rattle.sectors.specs.declared.work.Work.{Work}
 use Rattle.sectors.specs.declared.work.Work.the-variants.{Identifying, Moving, Formatting}
 use Rattle.sectors.specs.Follow.{freshAt, turnOf}
-use Rattle.sectors.specs.Result.{endOf, moveEnd, moveFails, movesOf}
+use Rattle.sectors.specs.declared.work.Verdict.{Verdict}
+use Rattle.sectors.specs.Result.{st0Of, otherBit, endOf, moveEnd, moveFails, movesOf}
 use Rattle.sectors.specs.Search.{matches}
 use Rattle.engine.specs.Step.{stageOf}
 use Rattle.sectors.specs.Track.{hasTrack, markPlace, dataPlace, nextSlot, passBytes}
 use Rattle.sectors.specs.Write.{writtenMark}
+use Rattle.demands.specs.Acknowledged.{AllSafe, Acknowledges}
 use Rattle.demands.specs.History.{Begun, no-one, some-of, History, noted}
-use Rattle.demands.specs.PowerCut.{Aim, aimNo, Stands, HalfDone, LeftBy}
+use Rattle.demands.specs.PowerCut.{Aim, aimNo, Followed, Counts, Stands, HalfDone, LeftBy}
 use Rattle.demands.proofs.AddressLaws.{AllBehind, all-step, all-turn, onward-turn, onward-stay}
-use Rattle.demands.proofs.FifoStream.{Open, Stream, open-drawn, stream-told, held-drawn, held-dry}
+use Rattle.demands.proofs.FifoStream.{Open, Stream, open-drawn, stream-told, stream-within, held-drawn, held-dry, held-more, held-none}
 use Rattle.demands.proofs.LeftLaws.{storedCount, left-begins, left-puts, left-finishes}
-use Rattle.demands.proofs.TickRules.{marked, hits, NextRule, stops, turns, steps, Rule, notFound, noData, noSide, late, misses, passes, toWrite, toRead, skips, turned-over, waits, begins, puts, pads, finishes, moves, moves-last, drains, data-error, other-kind, drained}
+use Rattle.demands.proofs.RequestLaws.{test-on, test-off}
+use Rattle.demands.proofs.TickRules.{marked, hits, Fails, NextEnds, NextRule, stops, turns, steps, Rule, notFound, noData, noSide, late, misses, passes, toWrite, toRead, skips, turned-over, waits, begins, puts, pads, finishes, moves, moves-last, drains, data-error, other-kind, drained}
 
 -- the slot after the one used is one of the track's
-next-slot-below : (slot slots : ℕ) → 1 ≤ slots → nextSlot slot slots < slots
+pub next-slot-below : (slot slots : ℕ) → 1 ≤ slots → nextSlot slot slots < slots
 next-slot-below slot slots h =
     by-test (ltb (slot + 1) slots) (λ (n : ℕ). n < slots) (slot + 1) 0 (λ t. ltb-true (slot + 1) slots t)
     (λ t. omega arith)
 
 -- an address that matches is the one sought
-matches-id : (id wanted : Id) (n : ℕ) → matches id wanted n ≡ true → (id ≡ wanted) × (id .n ≡ n)
+pub matches-id : (id wanted : Id) (n : ℕ) → matches id wanted n ≡ true → (id ≡ wanted) × (id .n ≡ n)
 matches-id id wanted n t =
     let (chrn, n″) = both _ (eqb (id .n) n) t in
     let (chr, n′) = both _ (eqb (id .n) (wanted .n)) chrn in
@@ -69,14 +74,25 @@ matches-id id wanted n t =
     ) in
     (e, eqb-true (id .n) n n″)
 
--- a mark that counts as an ID is above 0
-marked-above : (v : ℕ) → marked (markOf v) ≡ true → 0 < v
+-- a mark that is an ID is 1 to 5
+pub marked-counts : (v : ℕ) → marked (markOf v) ≡ true → Counts v
 unfolding markOf
-marked-above zero t = absurd (false≢true t)
-marked-above (suc v) t = omega arith
+marked-counts zero t = absurd (false≢true t)
+marked-counts (suc v) t = (omega arith, at-most (le-or-lt 6 (suc v)))
+  where
+    at-most : (6 ≤ suc v) ⊎ (suc v < 6) → suc v ≤ 5
+    at-most (inl l) =
+        absurd (false≢true (rw (
+          ne-eqb (suc v) 1 (λ e. omega arith),
+          ne-eqb (suc v) 2 (λ e. omega arith),
+          ne-eqb (suc v) 3 (λ e. omega arith),
+          ne-eqb (suc v) 4 (λ e. omega arith),
+          ne-eqb (suc v) 5 (λ e. omega arith),
+        ) at t))
+    at-most (inr l) = omega arith
 
 -- 01 Next: after a turn it goes on only where the track has that side
-turned-has : (slot : ℕ) (site : Site) (task : Task) (head : ℕ) (fifo : Fifo)
+pub turned-has : (slot : ℕ) (site : Site) (task : Task) (head : ℕ) (fifo : Fifo)
     → turnOf slot site task head fifo ≡ movesOf (Searching (freshAt slot)) site task fifo Nothing
     → hasTrack (site .disk) head (site .side) ≡ true
 unfolding turnOf moveFails moveEnd endOf
@@ -110,6 +126,20 @@ noted-grown p v at bytes h e b = rw (b, ne-eqb p at (λ t. omega arith))
 noted-closed : (p v at : ℕ) (bytes : List ℕ) (h : History) → p ≡ at → h .begun ≡ some-of at bytes
     → noted (Store p v) h ≡ closed at bytes h
 noted-closed p v at bytes h e b = rw (b, eq-eqb p at e)
+
+pub some≢none : (at : ℕ) (bytes : List ℕ) → some-of at bytes ≡ no-one → ⊥
+some≢none at bytes e = let z : _≡_ {A = ℕ} 0 1 = cc in omega arith
+
+not-80 : (x : ℕ) → (x ≡ 0x01) ⊎ (x ≡ 0x04) → x ≡ 0x80 → ⊥
+not-80 x (inl y) z = omega arith
+not-80 x (inr y) z = omega arith
+
+-- 01 Result: IC
+normal-below : (drive side : ℕ) → st0Of true drive side < 0x40
+normal-below drive side = omega arith
+
+failed-above : (drive side : ℕ) → st0Of false drive side < 0x40 → ⊥
+failed-above drive side l = omega arith
 
 module _ (g : Geometry) (cylinder drive : ℕ) (transfer : Transfer) (aim : Aim) (old : List ℕ) where
   -- what is left of the image so far
@@ -146,13 +176,18 @@ module _ (g : Geometry) (cylinder drive : ℕ) (transfer : Transfer) (aim : Aim)
     pub disk : site .disk ≡ g
     pub drive-is : site .drive ≡ drive
     pub told-to : task .transfer ≡ transfer
+    pub plain : task .other ≡ false
     pub side : site .side ≡ aimNow h .side
     pub id : task .id ≡ aimNow h .id
     pub all : AllBehind transfer aim (length (h .finished))
+    pub on : (k : ℕ) → k < length (h .finished) → Followed transfer (aimNo transfer aim k)
     pub link : Link (aimNow h) (h .begun) stage
     pub request : Open efifo fifo
     pub stream : Stream (h .host) (held fifo) (storedCount g h) (fifo .tc)
     pub tc : fifo .tc ≡ true → h .told ≡ true
+    pub heard : h .told ≡ true → fifo .tc ≡ true
+    -- after TC a sector is sought only for bytes that are held
+    pub more : fifo .tc ≡ true → h .begun ≡ no-one → 0 < fifo .count
     pub sofar : Sofar img h
 
   -- after a tick: it goes on, or it is over
@@ -161,8 +196,12 @@ module _ (g : Geometry) (cylinder drive : ℕ) (transfer : Transfer) (aim : Aim)
   OnWork efifo (Moving site task stage) fifo img h = Busy efifo site task stage fifo img h
   OnWork efifo (Formatting site plan form) fifo img h = ⊥
 
+  -- what its result says of what it has done
+  abbrev pub Says : Verdict → History → Type 0
+  Says verdict h = Acknowledges g transfer aim h (verdict .st0) (verdict .st1) (verdict .st2) (verdict .id)
+
   abbrev pub OnThen : Bool → Then → Fifo → List ℕ → History → Type 0
-  OnThen efifo (Ends verdict) fifo img h = Sofar img h
+  OnThen efifo (Ends verdict) fifo img h = Sofar img h × Says verdict h
   OnThen efifo (Works work) fifo img h = OnWork efifo work fifo img h
 
   abbrev pub OnStep : Bool → Step → List ℕ → History → Type 0
@@ -179,13 +218,17 @@ module _ (g : Geometry) (cylinder drive : ℕ) (transfer : Transfer) (aim : Aim)
           disk = b .disk;
           drive-is = b .drive-is;
           told-to = b .told-to;
+          plain = b .plain;
           side = b .side;
           id = b .id;
           all = b .all;
+          on = b .on;
           link = l;
           request = b .request;
           stream = b .stream;
           tc = b .tc;
+          heard = b .heard;
+          more = b .more;
           sofar = b .sofar;
         }
 
@@ -212,7 +255,7 @@ module _ (g : Geometry) (cylinder drive : ℕ) (transfer : Transfer) (aim : Aim)
         let p : markPlace site cylinder slot ≡ offsetOf g cylinder (aimNow h .side) slot = mark-is slot b in
         let (m, i) = both (marked (markOf (getD img (markPlace site cylinder slot) 0))) _ t in
         let (e, n) = matches-id (idAt img (markPlace site cylinder slot)) (task .id) (site .disk .n) i in
-        let m′ : 0 < getD img (offsetOf g cylinder (aimNow h .side) slot) 0 = rw p at (marked-above _ m) in
+        let m′ : Counts (getD img (offsetOf g cylinder (aimNow h .side) slot) 0) = rw p at (marked-counts _ m) in
         let e′ : idAt img (offsetOf g cylinder (aimNow h .side) slot) ≡ task .id = rw p at e in
         record {
           slot = slot;
@@ -228,22 +271,26 @@ module _ (g : Geometry) (cylinder drive : ℕ) (transfer : Transfer) (aim : Aim)
         (fifo′ : Fifo) (img′ bytes : List ℕ) → Busy efifo site task stage fifo img h → InHand (aimNow h) slot
         → length bytes ≡ done → Open efifo fifo′
         → Stream (h .host) (held fifo′) (length (h .finished) * sizeOf (g .n) + length bytes) (fifo′ .tc)
-        → (fifo′ .tc ≡ true → h .told ≡ true)
+        → (fifo′ .tc ≡ true → h .told ≡ true) → (h .told ≡ true → fifo′ .tc ≡ true)
         → Sofar img′ (grown (offsetOf g cylinder (aimNow h .side) slot) bytes h)
         → Busy efifo site task (Storing slot done) fifo′ img′
         (grown (offsetOf g cylinder (aimNow h .side) slot) bytes h)
-    busy-stored slot done fifo′ img′ bytes b hand z o s t k =
+    busy-stored slot done fifo′ img′ bytes b hand z o s t u k =
         record {
           disk = b .disk;
           drive-is = b .drive-is;
           told-to = b .told-to;
+          plain = b .plain;
           side = b .side;
           id = b .id;
           all = b .all;
+          on = b .on;
           link = (hand, record { bytes = bytes; some = refl; size = z });
           request = o;
           stream = s;
           tc = t;
+          heard = u;
+          more = λ x e. absurd (some≢none _ _ e);
           sofar = k;
         }
 
@@ -252,19 +299,59 @@ module _ (g : Geometry) (cylinder drive : ℕ) (transfer : Transfer) (aim : Aim)
       abbrev here : ℕ → ℕ
       here slot = offsetOf g cylinder (aimNow h .side) slot
 
+      -- what is handed over and not stored, with no sector begun
+      none-stream : h .begun ≡ no-one → Stream (h .host) (held fifo) (length (h .finished) * sizeOf (g .n)) (fifo .tc)
+      none-stream none =
+          let k : storedCount g h ≡ length (h .finished) * sizeOf (g .n) = rw none (omega arith) in
+          rw k at (b .stream)
+
+      -- a command at work has not all safe
+      at-risk : FitsFifo efifo fifo → AllSafe g h → ⊥
+      at-risk f a =
+          omega (
+            arith,
+            a .all,
+            held-more efifo fifo f (h .host) _ (b .more (b .heard (a .told)) (a .none)) (none-stream (a .none)),
+          )
+
+      no-more-of : (img : List ℕ) (h : History) → Sofar img h → 0 < length (h .finished)
+          → (length (h .finished) - 1) * sizeOf (g .n) < length (h .host)
+      no-more-of img h k l = k .fed (length (h .finished) - 1) (omega arith)
+
+      -- 01 Result: an end that is no Next
+      pub fails-says : (verdict : Verdict) (st1 : ℕ) → FitsFifo efifo fifo → Fails st1 site task verdict
+          → (st1 ≡ 0x80 → ⊥) → (h .begun ≡ no-one) ⊎ ((st1 ≡ 0x10) ⊎ (st1 ≡ 0x01)) → Says verdict h
+      fails-says verdict st1 f v other why =
+          record {
+            address = v .id ∙ b .id;
+            normal = λ l. absurd (failed-above (site .drive) (site .side) (rw (v .st0) at l));
+            safe = λ a. absurd (at-risk f a);
+            clean = λ l. absurd (failed-above (site .drive) (site .side) (rw (v .st0) at l));
+            no-more = no-more-of img h (b .sofar);
+            past-eot = λ e. absurd (other (sym (v .st1-is) ∙ e));
+            broken = λ at bytes e. left why at bytes e;
+          }
+        where
+          left : (h .begun ≡ no-one) ⊎ ((st1 ≡ 0x10) ⊎ (st1 ≡ 0x01)) → (at : ℕ) (bytes : List ℕ)
+              → h .begun ≡ some-of at bytes → (verdict .st1 ≡ 0x10) ⊎ (verdict .st1 ≡ 0x01)
+          left (inl none) at bytes e = absurd (some≢none at bytes (sym e ∙ none))
+          left (inr (inl t)) at bytes e = inl (v .st1-is ∙ t)
+          left (inr (inr t)) at bytes e = inr (v .st1-is ∙ t)
+
       -- 01 Write: the broken mark
-      busy-begins : (slot : ℕ) → InHand (aimNow h) slot → h .begun ≡ no-one
+      busy-begins : (slot : ℕ) → FitsFifo efifo fifo → 0 < fifo .count → InHand (aimNow h) slot → h .begun ≡ no-one
           → Busy efifo site task (Storing slot 0) fifo (set img (markPlace site cylinder slot) (writtenMark true task))
           (noted (Store (markPlace site cylinder slot) (writtenMark true task)) h)
-      busy-begins slot hand none =
+      busy-begins slot f c hand none =
           let p = mark-is slot b in
           let v : writtenMark true task ≡ byteOf (Data (transfer .deleted) true) = rw (b .told-to) in
-          let left = left-begins g cylinder transfer aim old fits hr img h (b .sofar) none (b .all) (here slot) hand in
+          let left = left-begins g cylinder transfer aim old fits hr img h (b .sofar) none (b .all) (here slot) hand
+          (held-more efifo fifo f (h .host) _ c (none-stream none)) (b .on) in
           let note = noted-began (here slot) (byteOf (Data (transfer .deleted) true)) (here slot) h refl none in
           let s : Stream (h .host) (held fifo) (length (h .finished) * sizeOf (g .n) + 0) (fifo .tc) =
           rw none at (b .stream) in
           rw (p, v, note)
-          (busy-stored slot 0 fifo _ [] b hand refl (b .request) s (b .tc)
+          (busy-stored slot 0 fifo _ [] b hand refl (b .request) s (b .tc) (b .heard)
           (rw note at left))
 
       -- 01 Write: one byte, the host's, or a zero after TC
@@ -296,6 +383,7 @@ module _ (g : Geometry) (cylinder drive : ℕ) (transfer : Transfer) (aim : Aim)
           (busy-stored slot (done + 1) fifo′ _ (bytes ++ (v ∷ [])) b hand (omega (arith, half .size)) o
           (subst (λ (j : ℕ). Stream (h .host) (held fifo′) j (fifo′ .tc)) m (rw t s′))
           (λ q. b .tc (sym t ∙ q))
+          (λ q. t ∙ b .heard q)
           (rw note at left))
 
       -- 01 Write: the good mark
@@ -322,36 +410,115 @@ module _ (g : Geometry) (cylinder drive : ℕ) (transfer : Transfer) (aim : Aim)
             omega arith,
           )
 
+      -- 01 Next, Result: where Next ends it
+      next-says : (at : ℕ) (bytes : List ℕ) (img′ : List ℕ) (verdict : Verdict) → FitsFifo efifo fifo
+          → NextEnds (fifo .tc && eqb (fifo .count) 0) site task verdict
+          → storedCount g h ≡ storedCount g (closed at bytes h)
+          → Sofar img′ (closed at bytes h)
+          → Says verdict (closed at bytes h)
+      next-says at bytes img′ verdict f v n k = go (fifo .tc && eqb (fifo .count) 0) refl v
+        where
+          k-is : storedCount g h ≡ suc (length (h .finished)) * sizeOf (g .n)
+          k-is = n ∙ omega arith
+
+          stream′ : Stream (h .host) (held fifo) (suc (length (h .finished)) * sizeOf (g .n)) (fifo .tc)
+          stream′ = rw k-is at (b .stream)
+
+          address-is : verdict .id ≡ advancedOf (task .id) (task .transfer .eot) (task .transfer .mt) (site .side)
+              → verdict .id ≡ aimNo transfer aim (suc (length (h .finished))) .id
+          address-is e = e ∙ rw (b .id, b .told-to, b .side)
+
+          at-eot : (m : ℕ) → m + 1 ≡ suc (length (h .finished)) → task .id .r ≡ task .transfer .eot
+              → aimNo transfer aim m .id .r ≡ transfer .eot
+          at-eot m z e =
+              let y : m ≡ length (h .finished) = omega arith in
+              rw y (rw (b .id, b .told-to) at e)
+
+          go : (t : Bool) → (fifo .tc && eqb (fifo .count) 0) ≡ t → NextEnds t site task verdict
+              → Says verdict (closed at bytes h)
+          go true t w =
+              let (tc, z) = test-on (fifo .tc) (fifo .count) t in
+              record {
+                address = address-is (w .id);
+                normal = λ l. record {
+                  told = b .tc tc;
+                  none = refl;
+                  all = held-none efifo fifo f (h .host) _ z stream′;
+                };
+                safe = λ a. rw (w .st0) (normal-below (site .drive) (site .side));
+                clean = λ l. (w .st1, w .st2 ∙ ap otherBit (b .plain));
+                no-more = no-more-of img′ _ k;
+                past-eot = λ e. absurd (omega (arith, w .st1));
+                broken = λ x y e. absurd (some≢none x y (sym e));
+              }
+          go false t w =
+              let on = test-off (fifo .tc) (fifo .count) t in
+              record {
+                address = address-is (w .id);
+                normal = λ l. absurd (failed-above (site .drive) (site .side) (rw (w .st0) at l));
+                safe = λ a. absurd (omega (
+                  arith,
+                  a .all,
+                  held-more efifo fifo f (h .host) _ (on (b .heard (a .told))) stream′,
+                ));
+                clean = λ l. absurd (failed-above (site .drive) (site .side) (rw (w .st0) at l));
+                no-more = no-more-of img′ _ k;
+                past-eot = λ e. record {
+                  none = refl;
+                  some = omega arith;
+                  last = λ m z. at-eot m z (w .eot refl);
+                  whole = within (fifo .tc) refl on;
+                };
+                broken = λ x y e. absurd (some≢none x y (sym e));
+              }
+            where
+              within : (t : Bool) → fifo .tc ≡ t → (fifo .tc ≡ true → 0 < fifo .count)
+                  → suc (length (h .finished)) * sizeOf (g .n) ≤ length (h .host)
+              within true e on = omega (arith, held-more efifo fifo f (h .host) _ (on e) stream′)
+              within false e on = stream-within (h .host) _ _ (fifo .tc) e stream′
+
+      -- one sector more that is followed by another
+      one-on : (k : ℕ) → (length (h .finished) ≤ k) ⊎ (k < length (h .finished)) → k < suc (length (h .finished))
+          → Followed transfer (aimNow h) → Followed transfer (aimNo transfer aim k)
+      one-on k (inl a) l here = let z : k ≡ length (h .finished) = omega arith in rw z here
+      one-on k (inr a) l here = b .on k a
+
       -- and Next in that same tick
-      busy-next : (slot done : ℕ) (o : Step) → InHand (aimNow h) slot → Half (h .begun) (aimNow h) slot done
-          → passBytes site ≤ done
-          → NextRule slot site task fifo (Store (markPlace site cylinder slot) (writtenMark false task)) o
+      busy-next : (slot done : ℕ) (o : Step) → FitsFifo efifo fifo → InHand (aimNow h) slot
+          → Half (h .begun) (aimNow h) slot done → passBytes site ≤ done
+          → NextRule (fifo .tc && eqb (fifo .count) 0) slot site task fifo (Store (markPlace site cylinder slot) (writtenMark false task)) o
           → OnStep efifo o img h
-      busy-next slot done o hand half l (stops verdict e) =
+      busy-next slot done o f hand half l (stops verdict v e) =
           let note = noted-closed (markPlace site cylinder slot) (writtenMark false task) (here slot)
           (half .bytes) h (mark-is slot b) (half .some) in
-          rw (e, note) (closes slot done hand half l .0)
-      busy-next slot done o hand half l (turns r t d e) =
+          let (k, n) = closes slot done hand half l in
+          rw (e, note) (k, next-says _ (half .bytes) _ verdict f v n k)
+      busy-next slot done o f hand half l (turns u r t d e) =
           let note = noted-closed (markPlace site cylinder slot) (writtenMark false task) (here slot)
           (half .bytes) h (mark-is slot b) (half .some) in
           let (k, n) = closes slot done hand half l in
           let r′ : aimNow h .id .r ≡ transfer .eot = rw (b .id, b .told-to) at r in
           let z : aimNow h .side ≡ 0 = sym (b .side) ∙ d in
+          let t′ : transfer .mt ≡ true = rw (b .told-to) at t in
           rw (e, note)
           (record {
             disk = b .disk;
             drive-is = b .drive-is;
             told-to = b .told-to;
+            plain = b .plain;
             side = sym (onward-turn transfer (aimNow h) r′);
             id = rw (b .id, b .told-to, b .side);
             all = all-turn transfer aim (length (h .finished)) (b .all) hr r′ z;
+            on = λ k x. one-on k (le-or-lt (length (h .finished)) k) x (λ q. (t′, z));
             link = (hand .has .on-disk, rw (b .disk) (next-slot-below slot (g .slots) (fits .range .slots .0)), refl);
             request = b .request;
             stream = subst (λ (j : ℕ). Stream (h .host) (held fifo) j (fifo .tc)) n (b .stream);
             tc = b .tc;
+            heard = b .heard;
+            more = λ x y. test-off (fifo .tc) (fifo .count) u x;
             sofar = k;
           })
-      busy-next slot done o hand half l (steps r e) =
+      busy-next slot done o f hand half l (steps u r e) =
           let note = noted-closed (markPlace site cylinder slot) (writtenMark false task) (here slot)
           (half .bytes) h (mark-is slot b) (half .some) in
           let (k, n) = closes slot done hand half l in
@@ -362,9 +529,11 @@ module _ (g : Geometry) (cylinder drive : ℕ) (transfer : Transfer) (aim : Aim)
             disk = b .disk;
             drive-is = b .drive-is;
             told-to = b .told-to;
+            plain = b .plain;
             side = b .side ∙ sym stay;
             id = rw (b .id, b .told-to, b .side);
             all = all-step transfer aim (length (h .finished)) (b .all) hr he r′;
+            on = λ k x. one-on k (le-or-lt (length (h .finished)) k) x (λ q. absurd (r′ q));
             link = (
               record {
                 on-disk = hand .has .on-disk;
@@ -376,6 +545,8 @@ module _ (g : Geometry) (cylinder drive : ℕ) (transfer : Transfer) (aim : Aim)
             request = b .request;
             stream = subst (λ (j : ℕ). Stream (h .host) (held fifo) j (fifo .tc)) n (b .stream);
             tc = b .tc;
+            heard = b .heard;
+            more = λ x y. test-off (fifo .tc) (fifo .count) u x;
             sofar = k;
           })
 
@@ -383,10 +554,14 @@ module _ (g : Geometry) (cylinder drive : ℕ) (transfer : Transfer) (aim : Aim)
       pub busy-rule : (o : Step) → FitsFifo efifo fifo → o ≡ stageOf stage site task cylinder img fifo efifo fifothr
           → Rule cylinder img efifo fifothr site task fifo stage o → OnStep efifo o img h
       unfolding stageOf hasTrack drawnOf
-      busy-rule o f is (notFound look verdict p t l m e) = rw e (b .sofar)
-      busy-rule o f is (noData look verdict p t r m e) = rw e (b .sofar)
-      busy-rule o f is (noSide slot verdict p e) = rw e (b .sofar)
-      busy-rule o f is (late verdict v e) = rw e (b .sofar)
+      busy-rule o f is (notFound look verdict p t l m x y v e) =
+          let (k, none) = rw p at (b .link) in
+          rw e (b .sofar, fails-says verdict x f v (not-80 x y) (inl none))
+      busy-rule o f is (noData look verdict p t r m v e) = no-read b r
+      busy-rule o f is (noSide slot verdict p ns v e) =
+          let (on-disk, on-track, none) = rw p at (b .link) in
+          rw e (b .sofar, fails-says verdict 0x01 f v (λ z. omega arith) (inl none))
+      busy-rule o f is (late verdict v l e) = rw e (b .sofar, fails-says verdict 0x10 f v (λ z. omega arith) (inr (inl refl)))
       busy-rule o f is (misses look on p t l a q e) =
           let (k, none) = rw p at (b .link) in
           let l′ : look .slot + 1 < g .slots = rw (b .disk) at l in
@@ -413,8 +588,8 @@ module _ (g : Geometry) (cylinder drive : ℕ) (transfer : Transfer) (aim : Aim)
       busy-rule o f is (toWrite look p t w e) =
           let (k, none) = rw p at (b .link) in
           rw e (busy-to (Awaiting (look .slot) 0) b (found (look .slot) b k t, none))
-      busy-rule o f is (toRead look deleted broken other p t r m d e) = no-read b r
-      busy-rule o f is (skips look deleted broken p t r m d n) = no-read b r
+      busy-rule o f is (toRead look deleted broken other p t r m d ns e) = no-read b r
+      busy-rule o f is (skips look deleted broken p t r m d k n) = no-read b r
       busy-rule o f is (turned-over slot p e) =
           let (on-disk, on-track, none) = rw p at (b .link) in
           let t : hasTrack (site .disk) cylinder (site .side) ≡ true =
@@ -428,7 +603,7 @@ module _ (g : Geometry) (cylinder drive : ℕ) (transfer : Transfer) (aim : Aim)
       busy-rule o f is (waits slot wait p l e) = rw e (busy-to (Awaiting slot (wait + 1)) b (rw p at (b .link)))
       busy-rule o f is (begins slot wait p l e) =
           let (hand, none) = rw p at (b .link) in
-          rw e (busy-begins slot hand none)
+          rw e (busy-begins slot f l hand none)
       busy-rule o f is (puts slot done p l c e) =
           let (hand, half) = rw p at (b .link) in
           let (v, s) = held-drawn efifo fifo f (h .host) (storedCount g h) fifothr c (b .stream) in
@@ -441,10 +616,10 @@ module _ (g : Geometry) (cylinder drive : ℕ) (transfer : Transfer) (aim : Aim)
           rw e (busy-puts slot done 0 fifo hand half l (sym v) (b .request) refl s)
       busy-rule o f is (finishes slot done p l n) =
           let (hand, half) = rw p at (b .link) in
-          busy-next slot done o hand half l n
-      busy-rule o f is (moves sector done fifo′ p l e) = absurd (rw p at (b .link))
-      busy-rule o f is (moves-last sector done fifo′ p l e) = absurd (rw p at (b .link))
+          busy-next slot done o f hand half l n
+      busy-rule o f is (moves sector done fifo′ p l x e) = absurd (rw p at (b .link))
+      busy-rule o f is (moves-last sector done fifo′ p l x e) = absurd (rw p at (b .link))
       busy-rule o f is (drains sector looks p l e) = absurd (rw p at (b .link))
-      busy-rule o f is (data-error sector looks verdict p q r s e) = absurd (rw p at (b .link))
-      busy-rule o f is (other-kind sector looks verdict p q e) = absurd (rw p at (b .link))
-      busy-rule o f is (drained sector looks p q n) = absurd (rw p at (b .link))
+      busy-rule o f is (data-error sector looks verdict p q s v e) = absurd (rw p at (b .link))
+      busy-rule o f is (other-kind sector looks verdict p q z ok os e) = absurd (rw p at (b .link))
+      busy-rule o f is (drained sector looks p q ok zc n) = absurd (rw p at (b .link))

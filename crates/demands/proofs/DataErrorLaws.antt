@@ -1,11 +1,11 @@
 -- Demand 3: the read after the cut ends with the data error, or late (specs/DataError), over every list of calls.
 -- Assumes nothing.
-use Prim.Native.Nat.{ℕ, zero, suc, _%_, _≤_, _<_}
+use Prim.Native.Nat.{ℕ, _+_, _%_, _≤_, _<_}
 use native.Mathlib.Omega.{arith}
 use native.Mathlib.Nat.{mod-eq-of-lt}
-use mathlib.Core.Bool.{Bool, Bool·beq, true, false, true≢false, false≢true}
+use mathlib.Core.Bool.{Bool, Bool·beq, true, false, not, true≢false, false≢true}
 use mathlib.Core.List.{List, [], _∷_}
-use mathlib.Core.Logic.{inl, inr}
+use mathlib.Core.Logic.{_⊎_, inl, inr}
 use mathlib.Core.Path.{_≡_, refl, sym, ap, _∙_}
 use lib.Dec.{eqb}
 use lib.ListN.{length, getD}
@@ -23,7 +23,8 @@ use Rattle.sectors.specs.declared.work.Then.the-variants.{Ends, Works}
 use Rattle.sectors.specs.declared.work.Work.the-variants.{Moving}
 use Rattle.engine.specs.First.{gateOf, taskOf, movingOf, startOf, enteredOf, beginOf}
 use Rattle.sectors.specs.Follow.{freshAt}
-use Rattle.sectors.specs.Result.{movesOf}
+use Rattle.sectors.specs.declared.work.Task.{Task}
+use Rattle.sectors.specs.Result.{st0Of, otherBit, movesOf}
 use Rattle.engine.specs.Step.{stageOf, workOf, goOnOf}
 use Rattle.sectors.specs.Track.{hasTrack, staysOf}
 use Rattle.image.specs.declared.disk.Disk.the-variants.{Present}
@@ -34,7 +35,6 @@ use Rattle.image.specs.declared.slot.Id.{Id}
 use Rattle.image.specs.Disk.{headerIn, geometryIn, diskIn}
 use Rattle.image.specs.Layout.{trackAt, offsetOf, Has, sameOf}
 use Rattle.image.specs.Lent.{pickOf}
-use Rattle.image.specs.Mark.{markOf}
 use Rattle.image.specs.Slot.{idAt}
 use Rattle.image.specs.Sound.{Sound}
 use Rattle.image.proofs.DiskLaws.{fits-present}
@@ -43,17 +43,19 @@ use Rattle.image.proofs.TestLaws.{by-test}
 use Rattle.drive.specs.declared.Drive.{Drive}
 use Rattle.fdc.specs.declared.record.Controller.{Controller}
 use Rattle.fdc.specs.declared.record.Phase.{Phase}
-use Rattle.fdc.specs.declared.record.Phase.the-variants.{Starting, Working}
+use Rattle.fdc.specs.declared.record.Phase.the-variants.{Starting, Working, Answering}
 use Rattle.fdc.specs.declared.ticks.Decision.{Decision}
 use Rattle.fdc.specs.Commands.{answeredOf}
-use Rattle.fdc.specs.Moves.{Calm}
+use Rattle.fdc.specs.Moves.{Calm, tickCount}
 use Rattle.fdc.specs.Record.{driveAt, withFifo, withPhase}
 use Rattle.fdc.specs.Registers.{motorIn}
 use Rattle.fdc.specs.Runs.{Call, powers, reads, writes, takes, gives, ticks, notes, after}
 use Rattle.fdc.specs.Ticks.{seenOf, settledOf, decidedOf, ruledOf, imageAfter}
-use Rattle.demands.specs.DataError.{ReadsIt, Spins, DataErrorOrLate, DataError}
-use Rattle.demands.specs.EndsInTime.{EndsInTime}
-use Rattle.demands.specs.History.{Sector, Begun, no-one, some-of, History}
+use Rattle.demands.specs.Acknowledged.{resultByte, resultId}
+use Rattle.demands.specs.DataError.{ReadsThere, Spins, DataErrorOrLate, DataErrorAt, DataError, DataErrorInTime}
+use Rattle.demands.specs.EndsInTime.{boundOf, EndsInTime}
+use Rattle.demands.specs.History.{Sector, Begun, no-one, some-of, History, fresh, historyOf}
+use Rattle.demands.specs.InTime.{Late, LatePhase, AtTick, AtTicks}
 use Rattle.demands.specs.PowerCut.{
   Aim,
   Stands,
@@ -63,18 +65,21 @@ use Rattle.demands.specs.PowerCut.{
   SparesAll,
   SparesBegun,
   LeftBy,
+  Writes,
   headOf,
   PowerCut,
 }
-use Rattle.demands.specs.Work.{Real, atWork, imageBy, imageLeft, Handed, Alone, Anyhow}
+use Rattle.demands.specs.Work.{Real, atWork, Its, imageBy, imageLeft, Handed, Alone, Anyhow}
 use Rattle.demands.specs.Work as command
-use Rattle.demands.proofs.CallRules.{Proper, Quiet, NoTick, Keeps}
-use Rattle.demands.proofs.EndsLaws.{ends-in-time}
-use Rattle.demands.proofs.PowerCutLaws.{power-cut}
+use Rattle.demands.proofs.CallRules.{NoTick, Keeps}
+use Rattle.demands.specs.Quiet.{Proper, Quiet}
+use Rattle.demands.proofs.CutLaws.{marked-counts}
+use Rattle.demands.proofs.EndsLaws.{ends-in-time-quiet}
+use Rattle.demands.proofs.PowerCutLaws.{power-cut-quiet}
 use Rattle.demands.proofs.CallLaws.{tick-starts, tick-works, calm-keeps, after-tick}
 use Rattle.demands.proofs.QuietLaws.{quiet-real, quiet-after}
-use Rattle.demands.proofs.FollowLaws.{StartsBroken, OnStage, siteAt, Follow, goes, ends, follow-rule}
-use Rattle.demands.proofs.TickRules.{marked, transfer-rule}
+use Rattle.demands.proofs.FollowLaws.{StartsBroken, OnStage, siteAt, differs, taskIn, Follow, goes, ends, follow-rule}
+use Rattle.demands.proofs.TickRules.{transfer-rule}
 
 -- 01 Data commands: a header is as it was met
 same-geometry : (g : Geometry) → sameOf g g ≡ true
@@ -113,25 +118,46 @@ module _ (a b : List ℕ) (drive : ℕ) (o : Step) (c : Controller) (e : ruledOf
   unfolding imageAfter decidedOf
   tick-image k n img = rw (e, n) (by-test (eqb drive k) (λ (x : List ℕ). x ≡ img) img img (λ _. refl) (λ _. refl))
 
--- on the way to the end, or there
-pub data Way (order : Order) (g : Geometry) (t : ℕ) (transfer : Transfer) (id : Id) (c : Controller) : Type 0 where
-  starts : c .phase ≡ Starting order → Way order g t transfer id c
-  works : (stage : Stage)
-      → c .phase ≡ Working (Moving (siteAt (order .drive) (order .side) g) (taskOf transfer id) stage) → OnStage t stage
-      → Way order g t transfer id c
-  over : DataErrorOrLate c → Way order g t transfer id c
+-- the result: the data error with the sector's address; or ST1 10, and L, what a late byte stands for
+abbrev pub ErrorOr : Bool → Site → Id → Type 0 → Controller → Type 0
+ErrorOr other site id L c =
+    ((resultByte 0 c ≡ st0Of false (site .drive) (site .side)) × (resultByte 1 c ≡ 0x20)
+    × (resultByte 2 c ≡ otherBit other + 0x20) × (resultId c ≡ id))
+    ⊎ ((resultByte 1 c ≡ 0x10) × L)
 
-pub record Follows (order : Order) (g : Geometry) (head t : ℕ) (transfer : Transfer) (id : Id) (c : Controller) : Type 0
+pub record Over (other : Bool) (site : Site) (id : Id) (L : Type 0) (c : Controller) : Type 0 where
+  pub waits : c .phase ≡ Answering true
+  pub bytes : ErrorOr other site id L c
+
+-- a late byte is L
+abbrev pub LateIs : Type 0 → Controller → Type 0
+LateIs L c = LatePhase (c .registers .efifo) (c .fifo) (c .phase) → L
+
+-- on the way to the end, or there
+pub data Way (order : Order) (g : Geometry) (t : ℕ) (transfer : Transfer) (id : Id) (other : Bool) (L : Type 0)
+    (c : Controller) : Type 0 where
+  starts : c .phase ≡ Starting order → Way order g t transfer id other L c
+  works : (stage : Stage)
+      → c .phase ≡ Working (Moving (siteAt (order .drive) (order .side) g) (taskIn other transfer id stage) stage)
+      → OnStage t stage → Way order g t transfer id other L c
+  over : Over other (siteAt (order .drive) (order .side) g) id L c → Way order g t transfer id other L c
+
+pub record Follows (order : Order) (g : Geometry) (head t : ℕ) (transfer : Transfer) (id : Id) (other : Bool)
+    (L : Type 0) (c : Controller) : Type 0
   where
     pub quiet : Quiet c
     pub head-is : driveAt (order .drive) (c .drives) .head ≡ head
-    pub way : Way order g t transfer id c
+    pub way : Way order g t transfer id other L c
 
 module _ (img : List ℕ) (g : Geometry) (disk : diskIn img ≡ Present g) (order : Order) (low : order .drive < 4)
     (head t : ℕ) (transfer : Transfer) (id : Id) (job : order .job ≡ Move transfer id)
-    (b : StartsBroken g img head (order .side) t transfer id) where
+    (kind : Bool)
+    (b : StartsBroken g img head (order .side) t kind transfer id) (L : Type 0) where
   abbrev site : Site
   site = siteAt (order .drive) (order .side) g
+
+  abbrev other : Bool
+  other = differs kind transfer
 
   seen : (dor : ℕ) → motorIn dor (order .drive) ≡ true → seenOf dor (order .drive) img ≡ Present g
   unfolding seenOf
@@ -150,25 +176,31 @@ module _ (img : List ℕ) (g : Geometry) (disk : diskIn img ≡ Present g) (orde
       )
 
   -- a later tick
-  gone-on : (stage : Stage) (fifo : Fifo) (efifo : Bool) (fifothr : ℕ)
-      → goOnOf (Moving site (taskOf transfer id) stage) (Present g) head img fifo efifo fifothr
-      ≡ stageOf stage site (taskOf transfer id) head img fifo efifo fifothr
+  gone-on : (task : Task) (stage : Stage) (fifo : Fifo) (efifo : Bool) (fifothr : ℕ)
+      → goOnOf (Moving site task stage) (Present g) head img fifo efifo fifothr
+      ≡ stageOf stage site task head img fifo efifo fifothr
   unfolding goOnOf staysOf workOf
-  gone-on stage fifo efifo fifothr = simp (same-geometry g)
+  gone-on task stage fifo efifo fifothr = simp (same-geometry g)
+
+  -- what a late byte stands for
+  excused : {A : Type 0} {o : Step} → (A → L) → Follow other t site transfer id A o → Follow other t site transfer id L o
+  excused k (goes stage fifo w e) = goes stage fifo w e
+  excused k (ends verdict (inl x) e) = ends verdict (inl x) e
+  excused k (ends verdict (inr (x, l)) e) = ends verdict (inr (x, k l)) e
 
   -- where a tick's step leads
-  landed : (c : Controller) (o : Step) → Follow t site (taskOf transfer id) o
-      → Way order g t transfer id (settledOf (o .then) (o .fifo) c)
+  landed : (c : Controller) (o : Step) → Follow other t site transfer id L o
+      → Way order g t transfer id other L (settledOf (o .then) (o .fifo) c)
   unfolding settledOf withFifo withPhase answeredOf
   landed c o (goes stage fifo w e) = rw e (works stage refl w)
   landed c o (ends verdict h e) = rw e (over (record { waits = refl; bytes = h }))
 
-  no-effect : (o : Step) → Follow t site (taskOf transfer id) o → o .effect ≡ Nothing
+  no-effect : (o : Step) → Follow other t site transfer id L o → o .effect ≡ Nothing
   no-effect o (goes stage fifo w e) = rw e
   no-effect o (ends verdict h e) = rw e
 
-  module _ (a b′ : List ℕ) (c : Controller) (f : Follows order g head t transfer id c)
-      (motor : motorIn (c .registers .dor) (order .drive) ≡ true) (lent : pickOf (order .drive) a b′ ≡ img) where
+  module _ (a b′ : List ℕ) (c : Controller) (f : Follows order g head t transfer id other L c)
+      (motor : motorIn (c .registers .dor) (order .drive) ≡ true) (lent : pickOf (order .drive) a b′ ≡ img) (late-is : LateIs L c) where
     heads : driveAt (order .drive % 4) (c .drives) .head ≡ head
     heads = rw (mod-eq-of-lt {n = order .drive} {m = 4} low) (f .head-is)
 
@@ -177,29 +209,34 @@ module _ (img : List ℕ) (g : Geometry) (disk : diskIn img ≡ Present g) (orde
         ≡ decidedOf (order .drive) (movesOf (Searching (freshAt 0)) site (taskOf transfer id) (c .fifo) Nothing) c
     first-step p = tick-starts a b′ c order (f .quiet) p ∙ rw (lent, seen _ motor, heads, begun (c .fifo))
 
-    later-step : (stage : Stage) → c .phase ≡ Working (Moving site (taskOf transfer id) stage)
+    later-step : (task : Task) (stage : Stage) → c .phase ≡ Working (Moving site task stage)
         → ruledOf a b′ c
         ≡ decidedOf (order .drive)
-        (stageOf stage site (taskOf transfer id) head img (c .fifo) (c .registers .efifo) (c .registers .fifothr)) c
-    later-step stage p =
-        tick-works a b′ c (Moving site (taskOf transfer id) stage) (f .quiet) p
-        ∙ rw (lent, seen _ motor, heads, gone-on stage (c .fifo) (c .registers .efifo) (c .registers .fifothr))
+        (stageOf stage site task head img (c .fifo) (c .registers .efifo) (c .registers .fifothr)) c
+    later-step task stage p =
+        tick-works a b′ c (Moving site task stage) (f .quiet) p
+        ∙ rw (lent, seen _ motor, heads, gone-on task stage (c .fifo) (c .registers .efifo) (c .registers .fifothr))
 
     -- a tick of a command at work is such a step
-    step-of : atWork (c .phase) ≡ true → Way order g t transfer id c
-        → (o : Step) × (ruledOf a b′ c ≡ decidedOf (order .drive) o c) × Follow t site (taskOf transfer id) o
+    step-of : atWork (c .phase) ≡ true → Way order g t transfer id other L c
+        → (o : Step) × (ruledOf a b′ c ≡ decidedOf (order .drive) o c) × Follow other t site transfer id L o
     step-of w (starts p) = (_, first-step p, goes (Searching (freshAt 0)) (c .fifo) (omega arith) refl)
     step-of w (works stage p on) = (
       _,
-      later-step stage p,
-      follow-rule g img head (order .drive) (order .side) t transfer id b (c .registers .efifo)
+      later-step (taskIn other transfer id stage) stage p,
+      excused (stage-late stage p)
+          (follow-rule g img head (order .drive) (order .side) t kind transfer id b (c .registers .efifo)
           (c .registers .fifothr) (c .fifo) stage _ on (transfer-rule head img (c .registers .efifo)
-          (c .registers .fifothr) site (taskOf transfer id) (c .fifo) stage),
+          (c .registers .fifothr) site (taskIn other transfer id stage) (c .fifo) stage)),
     )
+      where
+        stage-late : (stage : Stage) → c .phase ≡ Working (Moving site (taskIn other transfer id stage) stage)
+            → Late (c .registers .efifo) site (c .fifo) stage → L
+        stage-late stage p l = late-is (rw p l)
     step-of w (over d) = absurd (false≢true (sym (ap atWork (d .waits)) ∙ w))
 
     follow-tick : atWork (c .phase) ≡ true
-        → Follows order g head t transfer id (after (ticks a b′) c) × (imageAfter (order .drive) a b′ c img ≡ img)
+        → Follows order g head t transfer id other L (after (ticks a b′) c) × (imageAfter (order .drive) a b′ c img ≡ img)
     follow-tick w =
         let (o, e, on) = step-of w (f .way) in (
           record {
@@ -214,17 +251,17 @@ module _ (img : List ℕ) (g : Geometry) (disk : diskIn img ≡ Present g) (orde
             → driveAt (order .drive) (after (ticks a b′) c .drives) .head ≡ driveAt (order .drive) (c .drives) .head
         moved-head o e = tick-head a b′ (order .drive) o c e
 
-        moved-way : (o : Step) → ruledOf a b′ c ≡ decidedOf (order .drive) o c → Follow t site (taskOf transfer id) o
-            → Way order g t transfer id (after (ticks a b′) c)
+        moved-way : (o : Step) → ruledOf a b′ c ≡ decidedOf (order .drive) o c → Follow other t site transfer id L o
+            → Way order g t transfer id other L (after (ticks a b′) c)
         moved-way o e on = rw (tick-record a b′ (order .drive) o c e) (landed c o on)
 
-        same-image : (o : Step) → ruledOf a b′ c ≡ decidedOf (order .drive) o c → Follow t site (taskOf transfer id) o
+        same-image : (o : Step) → ruledOf a b′ c ≡ decidedOf (order .drive) o c → Follow other t site transfer id L o
             → imageAfter (order .drive) a b′ c img ≡ img
         same-image o e on = tick-image a b′ (order .drive) o c e (order .drive) (no-effect o on) img
 
   -- a calm call that is no tick
-  follow-call : (call : Call) (c : Controller) → Follows order g head t transfer id c → atWork (c .phase) ≡ true
-      → NoTick call → Calm call → Follows order g head t transfer id (after call c)
+  follow-call : (call : Call) (c : Controller) → Follows order g head t transfer id other L c → atWork (c .phase) ≡ true
+      → NoTick call → Calm call → Follows order g head t transfer id other L (after call c)
   follow-call call c f w n calm =
       let k = calm-keeps call c (f .quiet) w n calm in
       record {
@@ -233,50 +270,45 @@ module _ (img : List ℕ) (g : Geometry) (disk : diskIn img ≡ Present g) (orde
         way = go k (f .way);
       }
     where
-      go : Keeps c (after call c) → Way order g t transfer id c → Way order g t transfer id (after call c)
+      go : Keeps c (after call c) → Way order g t transfer id other L c → Way order g t transfer id other L (after call c)
       go k (starts p) = starts (k .phase ∙ p)
       go k (works stage p on) = works stage (k .phase ∙ p) on
       go k (over d) = absurd (false≢true (sym (ap atWork (d .waits)) ∙ w))
 
-  follow-any : (call : Call) (c : Controller) → Follows order g head t transfer id c
+  follow-any : (call : Call) (c : Controller) → Follows order g head t transfer id other L c
       → motorIn (c .registers .dor) (order .drive) ≡ true → atWork (c .phase) ≡ true → Calm call
-      → Handed (order .drive) img call
-      → Follows order g head t transfer id (after call c) × (imageBy (order .drive) img call c ≡ img)
-  follow-any (powers head0 head1) c f m w calm lent = absurd calm
-  follow-any (reads offset) c f m w calm lent = (follow-call (reads offset) c f w tt calm, refl)
-  follow-any (writes offset byte) c f m w calm lent = (follow-call (writes offset byte) c f w tt calm, refl)
-  follow-any (takes tc) c f m w calm lent = (follow-call (takes tc) c f w tt calm, refl)
-  follow-any (gives byte tc) c f m w calm lent = (follow-call (gives byte tc) c f w tt calm, refl)
-  follow-any (ticks a b′) c f m w calm lent = follow-tick a b′ c f m lent w
-  follow-any (notes drive) c f m w calm lent = (follow-call (notes drive) c f w tt calm, refl)
+      → Handed (order .drive) img call → AtTick (LateIs L) call c
+      → Follows order g head t transfer id other L (after call c) × (imageBy (order .drive) img call c ≡ img)
+  follow-any (powers head0 head1) c f m w calm lent late-is = absurd calm
+  follow-any (reads offset) c f m w calm lent late-is = (follow-call (reads offset) c f w tt calm, refl)
+  follow-any (writes offset byte) c f m w calm lent late-is = (follow-call (writes offset byte) c f w tt calm, refl)
+  follow-any (takes tc) c f m w calm lent late-is = (follow-call (takes tc) c f w tt calm, refl)
+  follow-any (gives byte tc) c f m w calm lent late-is = (follow-call (gives byte tc) c f w tt calm, refl)
+  follow-any (ticks a b′) c f m w calm lent late-is = follow-tick a b′ c f m lent late-is w
+  follow-any (notes drive) c f m w calm lent late-is = (follow-call (notes drive) c f w tt calm, refl)
 
   -- what is over has ended so
-  over-so : (c : Controller) → Follows order g head t transfer id c → atWork (c .phase) ≡ false → DataErrorOrLate c
+  over-so : (c : Controller) → Follows order g head t transfer id other L c → atWork (c .phase) ≡ false → Over other site id L c
   over-so c f a = go (f .way)
     where
-      go : Way order g t transfer id c → DataErrorOrLate c
+      go : Way order g t transfer id other L c → Over other site id L c
       go (starts p) = absurd (true≢false (sym (ap atWork p) ∙ a))
       go (works stage p on) = absurd (true≢false (sym (ap atWork p) ∙ a))
       go (over d) = d
 
   -- if it ends, it ends so
-  pub ends-so : (calls : List Call) (c : Controller) → Follows order g head t transfer id c
-      → Spins (order .drive) calls c → Alone (order .drive) img calls c → command.Ends Anyhow calls c
-      → command.Ends DataErrorOrLate calls c
-  unfolding command.Ends Spins Alone
-  ends-so [] c f s l (a, u) = (a, over-so c f a)
-  ends-so (call ∷ calls) c f s l (inl (a, u)) = inl (a, over-so c f a)
-  ends-so (call ∷ calls) c f s l (inr (w, rest)) =
+  pub ends-so : (calls : List Call) (c : Controller) → Follows order g head t transfer id other L c
+      → Spins (order .drive) calls c → Alone (order .drive) img calls c → AtTicks (LateIs L) calls c
+      → command.Ends Anyhow calls c → command.Ends (Over other site id L) calls c
+  unfolding command.Ends Spins Alone AtTicks
+  ends-so [] c f s l n (a, u) = (a, over-so c f a)
+  ends-so (call ∷ calls) c f s l n (inl (a, u)) = inl (a, over-so c f a)
+  ends-so (call ∷ calls) c f s l n (inr (w, rest)) =
       let (calm, spins) = s .1 w in
       let (lent, alone) = l w in
-      let (f′, same) = follow-any call c f (s .0) w calm lent in
-      inr (w, ends-so calls (after call c) f′ spins (rw same at alone) rest)
-
--- a mark that is an ID is above 0
-marked-above : (x : ℕ) → marked (markOf x) ≡ true → 0 < x
-unfolding markOf
-marked-above zero e = absurd (false≢true e)
-marked-above (suc x) e = omega arith
+      let (late-is, later) = n w in
+      let (f′, same) = follow-any call c f (s .0) w calm lent late-is in
+      inr (w, ends-so calls (after call c) f′ spins (rw same at alone) later rest)
 
 -- the image as left has the disk that it had: no sector of the command touches the header
 slot-behind : (g : Geometry) (cylinder side k : ℕ) → 13 ≤ offsetOf g cylinder side k
@@ -334,23 +366,30 @@ module _ (g : Geometry) (cylinder : ℕ) (transfer : Transfer) (aim : Aim) (old 
   -- on the image as left the read finds it, and no other slot before it
   starts-broken : (h : History) → LeftBy g cylinder transfer aim old img h → Sound g old → (at : ℕ) (bytes : List ℕ)
       → h .begun ≡ some-of at bytes → (e : Controller) (order : Order) (transfer′ : Transfer) (id′ : Id)
-      → (r : ReadsIt e order transfer′ id′ g transfer old at)
-      → StartsBroken g img (headOf order e) (order .side) (r .slot) transfer′ id′
-  starts-broken h left sound at bytes q e order transfer′ id′ r =
+      → (r : ReadsThere e order transfer′ id′ g old at)
+      → (transfer′ .deleted ≡ transfer .deleted) ⊎ (transfer′ .sk ≡ false)
+      → StartsBroken g img (headOf order e) (order .side) (r .slot) (transfer .deleted) transfer′ id′
+  starts-broken h left sound at bytes q e order transfer′ id′ r own =
       let (stands, half) = half-of (h .host) _ (h .begun) at bytes q (left .begun) in
       let place : ℕ → ℕ = λ k. offsetOf g (headOf order e) (order .side) k in
       record {
         reads = r .reads;
         has = r .has;
-        mark = rw (← r .there, half .mark, r .kind) (mark-of-byte (Data (transfer .deleted) true));
+        mark = rw (← r .there, half .mark) (mark-of-byte (Data (transfer .deleted) true));
+        not-skipped = turned own;
         address = left .ids _ _ _ (r .has) ∙ ap (idAt old) (sym (r .there)) ∙ sym (r .address);
         size = ap (λ (i : Id). i .n) (r .address ∙ stands .address) ∙ stands .size;
         first = λ k l m i. sound .once (headOf order e) (order .side) k (r .slot) (earlier (r .has) l) (r .has) l
-            (left .marked _ _ k (earlier (r .has) l) (marked-above _ m))
-            (rw (r .there) at (stands .marked))
+            (left .marked _ _ k (earlier (r .has) l) (marked-counts _ m) .0)
+            ((rw (r .there) at (stands .marked)) .0)
             (sym (left .ids _ _ k (earlier (r .has) l)) ∙ i ∙ r .address ∙ ap (idAt old) (r .there));
       }
     where
+      turned : (transfer′ .deleted ≡ transfer .deleted) ⊎ (transfer′ .sk ≡ false)
+          → (transfer .deleted ≡ transfer′ .deleted) ⊎ (transfer′ .sk ≡ false)
+      turned (inl x) = inl (sym x)
+      turned (inr x) = inr x
+
       earlier : {cyl side k j : ℕ} → Has g cyl side k → j < k → Has g cyl side j
       earlier has l = record {
         on-disk = has .on-disk;
@@ -358,27 +397,130 @@ module _ (g : Geometry) (cylinder : ℕ) (transfer : Transfer) (aim : Aim) (old 
         on-track = omega (arith, has .on-track);
       }
 
-low-drive : (e : Controller) (order : Order) → Real e → e .phase ≡ Starting order → order .drive < 4
-low-drive e order r p = go (e .phase) p (quiet-real e r .proper)
+low-drive : (e : Controller) (order : Order) → Quiet e → e .phase ≡ Starting order → order .drive < 4
+low-drive e order q p = go (e .phase) p (q .proper)
   where
     go : (q : Phase) → q ≡ Starting order → Proper q → order .drive < 4
     go q f h = (rw f at h) .0
 
--- Demand 3, of a power cut as it is stated and of the bound
-data-error-of : PowerCut → EndsInTime → DataError
-data-error-of power-cut in-time c order transfer id w old g sound calls its alone at bytes q e order′ transfer′ id′ r
-    calls′ spins alone′ more =
-    let present = fits-present old g (sound .fits) in
-    let img : List ℕ = imageLeft (order .drive) old calls c in
-    let left = power-cut c order transfer id w old g present calls its alone in
-    let disk : diskIn img ≡ Present g = disk-left g _ transfer _ old img _ left ∙ present in
-    ends-so img g disk order′ (low-drive e order′ (r .real) (r .accepted)) (headOf order′ e) (r .slot) transfer′ id′
-    (r .moves)
-    (starts-broken g _ transfer _ old img _ left sound at bytes q e order′ transfer′ id′ r)
-    calls′ e
-    (record { quiet = quiet-real e (r .real); head-is = refl; way = starts (r .accepted) })
-    spins alone′
-    (in-time e (r .real) order′ (r .accepted) img g disk calls′ alone′ more)
+-- another conclusion
+ends-map : (P Q : Controller → Type 0) → ((c : Controller) → P c → Q c) → (calls : List Call) (c : Controller)
+    → command.Ends P calls c → command.Ends Q calls c
+unfolding command.Ends
+ends-map P Q f [] c (a, x) = (a, f c x)
+ends-map P Q f (call ∷ calls) c (inl (a, x)) = inl (a, f c x)
+ends-map P Q f (call ∷ calls) c (inr (w, rest)) = inr (w, ends-map P Q f calls (after call c) rest)
 
-pub data-error : DataError
-data-error = data-error-of power-cut ends-in-time
+-- without that premise a late byte stands for nothing
+any-late : (calls : List Call) (c : Controller) → AtTicks (LateIs (Unit {0})) calls c
+unfolding AtTicks
+any-late [] c = tt
+any-late (call ∷ calls) c = λ w. (of-call call, any-late calls (after call c))
+  where
+    of-call : (call : Call) → AtTick (LateIs (Unit {0})) call c
+    of-call (powers head0 head1) = tt
+    of-call (reads offset) = tt
+    of-call (writes offset byte) = tt
+    of-call (takes tc) = tt
+    of-call (gives byte tc) = tt
+    of-call (ticks a b) = λ l. tt
+    of-call (notes drive) = tt
+
+-- Demand 3, after the power cut
+module _ (c : Controller) (qc : Quiet c) (order : Order) (transfer : Transfer) (id : Id)
+    (w : Writes c order transfer id) (old : List ℕ) (g : Geometry) (sound : Sound g old) (calls : List Call)
+    (its : Its calls c) (alone : Alone (order .drive) old calls c) (at : ℕ) (bytes : List ℕ)
+    (q : historyOf calls c fresh .begun ≡ some-of at bytes) (e : Controller) (qe : Quiet e) (order′ : Order) (transfer′ : Transfer)
+    (id′ : Id) (r : ReadsThere e order′ transfer′ id′ g old at)
+    (own : (transfer′ .deleted ≡ transfer .deleted) ⊎ (transfer′ .sk ≡ false)) (L : Type 0) where
+  abbrev there : Site
+  there = siteAt (order′ .drive) (order′ .side) g
+
+  ends-over : (calls′ : List Call) → Spins (order′ .drive) calls′ e
+      → Alone (order′ .drive) (imageLeft (order .drive) old calls c) calls′ e → boundOf g ≤ tickCount calls′
+      → AtTicks (LateIs L) calls′ e
+      → command.Ends (Over (differs (transfer .deleted) transfer′) there id′ L) calls′ e
+  ends-over calls′ spins alone′ more timely =
+      let present = fits-present old g (sound .fits) in
+      let img : List ℕ = imageLeft (order .drive) old calls c in
+      let left = power-cut-quiet c qc order transfer id w old g present calls its alone in
+      let disk : diskIn img ≡ Present g = disk-left g _ transfer _ old img _ left ∙ present in
+      ends-so img g disk order′ (low-drive e order′ qe (r .accepted)) (headOf order′ e) (r .slot) transfer′ id′
+      (r .moves) (transfer .deleted)
+      (starts-broken g _ transfer _ old img _ left sound at bytes q e order′ transfer′ id′ r own) L
+      calls′ e
+      (record { quiet = qe; head-is = refl; way = starts (r .accepted) })
+      spins alone′ timely
+      (ends-in-time-quiet e qe order′ (r .accepted) img g disk calls′ alone′ more)
+
+beq-same : (a b : Bool) → a ≡ b → not (Bool·beq b a) ≡ false
+beq-same true b e = rw (← e) refl
+beq-same false b e = rw (← e) refl
+
+beq-other : (a b : Bool) → (a ≡ b → ⊥) → not (Bool·beq b a) ≡ true
+beq-other true true e = absurd (e refl)
+beq-other true false e = refl
+beq-other false true e = refl
+beq-other false false e = absurd (e refl)
+
+-- ST2 by the kind
+module _ (transfer written : Transfer) (order : Order) (g : Geometry) (id : Id) (c : Controller) where
+  abbrev differ : Bool
+  differ = differs (written .deleted) transfer
+
+  pub error-at : Over differ (siteAt (order .drive) (order .side) g) id ⊥ c → DataErrorAt order id transfer written c
+  error-at o = go (o .bytes)
+    where
+      go : ErrorOr differ (siteAt (order .drive) (order .side) g) id ⊥ c → DataErrorAt order id transfer written c
+      go (inl (a, b, d, i)) =
+          record {
+            waits = o .waits;
+            st0 = a;
+            st1 = b;
+            own-kind = λ k. rw (beq-same _ _ k) at d;
+            other-kind = λ k. rw (beq-other _ _ k) at d;
+            address = i;
+          }
+      go (inr (a, l)) = absurd l
+
+  pub error-or-late : transfer .deleted ≡ written .deleted
+      → Over differ (siteAt (order .drive) (order .side) g) id (Unit {0}) c → DataErrorOrLate c
+  error-or-late k o = record { waits = o .waits; bytes = go (o .bytes) }
+    where
+      go : ErrorOr differ (siteAt (order .drive) (order .side) g) id (Unit {0}) c
+          → ((resultByte 1 c ≡ 0x20) × (resultByte 2 c ≡ 0x20)) ⊎ (resultByte 1 c ≡ 0x10)
+      go (inl (a, b, d, i)) = inl (b, rw (beq-same _ _ k) at d)
+      go (inr (a, l)) = inr a
+
+pub data-error-in-time-quiet : DataErrorInTime Quiet
+data-error-in-time-quiet c qc order transfer id w old g sound calls its alone at bytes q e qe order′ transfer′ id′ r
+    own calls′ spins alone′ more timely =
+    ends-map _ _ (error-at transfer′ transfer order′ g id′) calls′ e
+    (ends-over c qc order transfer id w old g sound calls its alone at bytes q e qe order′ transfer′
+    id′ r own ⊥ calls′ spins alone′ more timely)
+
+pub data-error-quiet : DataError Quiet
+data-error-quiet c qc order transfer id w old g sound calls its alone at bytes q e qe order′ transfer′ id′ r calls′
+    spins alone′ more =
+    ends-map _ _ (λ x. error-or-late transfer′ transfer order′ g id′ x (r .kind)) calls′ e
+    (ends-over c qc order transfer id w old g sound calls its alone at bytes q e qe order′ transfer′
+    id′
+    (record {
+      accepted = r .accepted;
+      moves = r .moves;
+      reads = r .reads;
+      slot = r .slot;
+      has = r .has;
+      there = r .there;
+      address = r .address;
+    })
+    (inl (r .kind)) (Unit {0}) calls′ spins alone′ more (any-late calls′ e))
+
+pub data-error-in-time : DataErrorInTime Real
+data-error-in-time c r order transfer id w old g sound calls its alone at bytes q e r′ =
+    data-error-in-time-quiet c (quiet-real c r) order transfer id w old g sound calls its alone at bytes q e
+    (quiet-real e r′)
+
+pub data-error : DataError Real
+data-error c r order transfer id w old g sound calls its alone at bytes q e r′ =
+    data-error-quiet c (quiet-real c r) order transfer id w old g sound calls its alone at bytes q e (quiet-real e r′)

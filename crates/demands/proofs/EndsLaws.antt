@@ -40,10 +40,11 @@ use Rattle.fdc.specs.Runs.{Call, powers, reads, writes, takes, gives, ticks, no
 use Rattle.fdc.specs.Ticks.{seenOf, sensedAt, stillOf, settledOf, decidedOf, decideIn, decideOf, ruledOf, imageAfter}
 use Rattle.fdc.proofs.GoodLaws.{good-valid}
 use Rattle.demands.specs.EndsInTime.{boundOf, EndsInTime, EndsInOne, SensesInOne}
-use Rattle.demands.specs.Work.{atWork, imageBy, Handed, Alone, Ends, Anyhow}
+use Rattle.demands.specs.Work.{atWork, imageBy, Handed, Alone, Ends, Anyhow, Real}
 use Rattle.demands.proofs.BoundLaws.{workLeft, thenLeft, ProperWork, ProperThen, Falls, work-pos, go-on-falls, begin-falls}
 use Rattle.demands.proofs.CallLaws.{tick-starts, tick-works, call-rule, after-tick}
-use Rattle.demands.proofs.CallRules.{Quiet, NoTick, CallRule, cut-off, goes-on}
+use Rattle.demands.proofs.CallRules.{NoTick, CallRule, cut-off, goes-on}
+use Rattle.demands.specs.Quiet.{Quiet}
 use Rattle.demands.proofs.QuietLaws.{quiet-real, quiet-after}
 
 -- where a drive's head stands
@@ -211,7 +212,7 @@ module _ (drive : ℕ) (g : Geometry) where
 
   stays : (img : List ℕ) (call : Call) (c e : Controller) → CallRule call c e → On drive g (c .phase) → Stays img c e
   stays img call c e (cut-off w h) o =
-      let n = none-left drive g img (headAt drive e) (e .phase) w in
+      let n = none-left drive g img (headAt drive e) (e .phase) (ap atWork w) in
       record { on = n .0; left = omega (arith, n .1) }
   stays img call c e (goes-on k f) o =
       record { on = rw (k .phase) o; left = rw (k .phase, k .heads (drive % 4) (omega arith)) (omega arith) }
@@ -255,26 +256,34 @@ module _ (drive : ℕ) (g : Geometry) where
       go false e ih = inl (e, tt)
 
 -- 01 End: any of these is over within 2 x (S + 1) x (2S + B + 70) ticks if nobody else changes the image
-pub ends-in-time : EndsInTime
-ends-in-time c real order e img g d calls alone l =
-    ends-by (order .drive) g calls img c (quiet-real c real) (rw e refl) d alone (rw e l)
+pub ends-in-time-quiet : EndsInTime Quiet
+ends-in-time-quiet c q order e img g d calls alone l =
+    ends-by (order .drive) g calls img c q (rw e refl) d alone (rw e l)
 
 -- 01 End: on an empty drive in one
-pub ends-in-one : EndsInOne
+pub ends-in-one-quiet : EndsInOne Quiet
 unfolding beginOf gateOf enteredOf endOf decidedOf settledOf withFifo answeredOf
-ends-in-one c real order e a b h =
+ends-in-one-quiet c q order e a b h =
     ap (λ (x : Controller). x .phase) (after-tick a b c)
-    ∙ ap (λ (x : Decision). x .controller .phase) (tick-starts a b c order (quiet-real c real) e)
+    ∙ ap (λ (x : Decision). x .controller .phase) (tick-starts a b c order q e)
     ∙ rw h refl
 
 -- 01 Commands Sense Drive: ST3 at the next tick
-pub senses-in-one : SensesInOne
+pub senses-in-one-quiet : SensesInOne Quiet
 unfolding ruledOf decideOf decideIn stillOf sensedAt saidOf answeredOf
-senses-in-one c real unit e a b =
-    let q = quiet-real c real in
+senses-in-one-quiet c q unit e a b =
     ap (λ (x : Controller). x .phase) (after-tick a b c)
     ∙ rw (good-valid c (q .good), free (heldIn (c .registers .dor)) refl q, e) refl
   where
     free : (t : Bool) → heldIn (c .registers .dor) ≡ t → Quiet c → heldIn (c .registers .dor) ≡ false
     free true h q = let p = q .held h in let z : _≡_ {A = ℕ} 0 1 = cc in absurd (omega arith)
     free false h q = h
+
+pub ends-in-time : EndsInTime Real
+ends-in-time c r = ends-in-time-quiet c (quiet-real c r)
+
+pub ends-in-one : EndsInOne Real
+ends-in-one c r = ends-in-one-quiet c (quiet-real c r)
+
+pub senses-in-one : SensesInOne Real
+senses-in-one c r = senses-in-one-quiet c (quiet-real c r)

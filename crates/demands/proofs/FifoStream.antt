@@ -9,7 +9,7 @@ use mathlib.Core.List.{List, [], _∷_, _++_}
 use mathlib.Core.Path.{_≡_, refl, sym, ap, _∙_}
 use lib.Dec.{leb, ltb}
 use lib.ListN.{length, getD, take, drop, length-append, length-drop, List·getD-eq-default}
-use lib.Seq.{drop-append-le, drop-cons, drop-nil}
+use lib.Seq.{drop-append-le, drop-cons, drop-nil, length-take-le}
 use borrow.Author.Tests.{ltb-true, leb-false, lt-leb}
 use Rattle.image.proofs.TestLaws.{both}
 use Rattle.chip.specs.declared.fifo.Fifo.{Fifo}
@@ -126,7 +126,33 @@ stream-dry host rest k tc n t (dried t′ e h) = (List·getD-eq-default host 0 h
 
 -- Over the FIFO itself.
 
+capacity-most : (b : Bool) → capacityOf b ≤ 16
+capacity-most true = omega arith
+capacity-most false = omega arith
+
 module _ (efifo : Bool) (f : Fifo) (fits : Fits efifo f) (host : List ℕ) (k : ℕ) where
+  within : f .count ≤ length (f .bytes)
+  within = omega (arith, fits .sixteen, fits .within, capacity-most efifo)
+
+  held-count : length (held f) ≡ f .count
+  held-count = length-take-le (f .count) (f .bytes) within
+
+  -- a byte is held: the host gave more than is stored
+  pub held-more : 0 < f .count → Stream host (held f) k (f .tc) → k < length host
+  held-more p (flows h e) =
+      let n : f .count ≡ length host - k = sym held-count ∙ ap length e ∙ length-drop k host in
+      omega arith
+  held-more p (dried t e h) =
+      let n : f .count ≡ 0 = sym held-count ∙ ap length e in
+      absurd (omega arith)
+
+  -- none is held: all that the host gave is stored
+  pub held-none : f .count ≡ 0 → Stream host (held f) k (f .tc) → length host ≤ k
+  held-none z (flows h e) =
+      let n : f .count ≡ length host - k = sym held-count ∙ ap length e ∙ length-drop k host in
+      omega arith
+  held-none z (dried t e h) = h
+
   pub held-given : (tc : Bool) (byte : ℕ) → f .asks ≡ true → Open efifo f → Stream host (held f) k (f .tc)
       → Stream (host ++ (byte ∷ [])) (held (givenOf efifo tc byte f)) k (givenOf efifo tc byte f .tc)
   held-given tc byte a o s =
@@ -138,13 +164,6 @@ module _ (efifo : Bool) (f : Fifo) (fits : Fits efifo f) (host : List ℕ) (k : 
   held-drawn fifothr p s =
       stream-front host (held (drawnOf efifo fifothr f)) k (frontOf f) (f .tc)
       (rw (drawn-held efifo fifothr f p within) at s)
-    where
-      capacity-most : (b : Bool) → capacityOf b ≤ 16
-      capacity-most true = omega arith
-      capacity-most false = omega arith
-
-      within : f .count ≤ length (f .bytes)
-      within = omega (arith, fits .sixteen, fits .within, capacity-most efifo)
 
   pub held-dry : f .count ≡ 0 → f .tc ≡ true → Stream host (held f) k (f .tc)
       → (getD host k 0 ≡ 0) × Stream host (held f) (k + 1) (f .tc)

@@ -3,10 +3,10 @@
 -- Assumes nothing.
 use Prim.Native.Nat.{ℕ, _+_, _≤_, _<_}
 use native.Mathlib.Omega.{arith}
-use mathlib.Core.Bool.{Bool, true, false, _&&_, true≢false}
+use mathlib.Core.Bool.{Bool, Bool·beq, true, false, _&&_, not, true≢false}
 use mathlib.Core.List.{List}
 use mathlib.Core.Logic.{_⊎_, inl, inr}
-use mathlib.Core.Path.{_≡_, refl, sym, ap, _∙_}
+use mathlib.Core.Path.{_≡_, sym, ap, _∙_}
 use lib.Dec.{eqb}
 use lib.ListN.{getD}
 use borrow.Author.Tests.{eqb-true, eq-eqb}
@@ -21,7 +21,7 @@ use Rattle.sectors.specs.declared.work.Step.{Step}
 use Rattle.sectors.specs.declared.work.Task.{Task}
 use Rattle.sectors.specs.declared.work.Verdict.{Verdict}
 use Rattle.engine.specs.First.{taskOf}
-use Rattle.sectors.specs.Result.{movesOf}
+use Rattle.sectors.specs.Result.{st0Of, otherBit, movesOf}
 use Rattle.sectors.specs.Search.{matches}
 use Rattle.sectors.specs.Track.{markPlace}
 use Rattle.image.specs.declared.layout.Geometry.{Geometry}
@@ -33,6 +33,7 @@ use Rattle.image.specs.Layout.{offsetOf, Has}
 use Rattle.image.specs.Mark.{markOf}
 use Rattle.image.specs.Slot.{idAt}
 use Rattle.image.proofs.TestLaws.{both, le-or-lt}
+use Rattle.demands.specs.InTime.{Late}
 use Rattle.demands.proofs.TickRules.{
   marked,
   hits,
@@ -61,12 +62,14 @@ use Rattle.demands.proofs.TickRules.{
   drained,
 }
 
--- the command's first sector is slot t, under the broken mark of the command's own kind, and no slot before it has its
--- address
-pub record StartsBroken (g : Geometry) (img : List ℕ) (head side t : ℕ) (transfer : Transfer) (id : Id) : Type 0 where
+-- the command's first sector is slot t, under a broken mark, of the command's own kind or not skipped; no slot before
+-- it has its address
+pub record StartsBroken (g : Geometry) (img : List ℕ) (head side t : ℕ) (kind : Bool) (transfer : Transfer) (id : Id)
+    : Type 0 where
   pub reads : transfer .pass ≡ Read
   pub has : Has g head side t
-  pub mark : markOf (getD img (offsetOf g head side t) 0) ≡ Data (transfer .deleted) true
+  pub mark : markOf (getD img (offsetOf g head side t) 0) ≡ Data kind true
+  pub not-skipped : (kind ≡ transfer .deleted) ⊎ (transfer .sk ≡ false)
   pub address : idAt img (offsetOf g head side t) ≡ id
   pub size : id .n ≡ g .n
   pub first : (k : ℕ) → k < t → marked (markOf (getD img (offsetOf g head side k) 0)) ≡ true
@@ -81,18 +84,39 @@ OnStage t (Draining sector looks) = sector .broken ≡ true
 OnStage t (Awaiting slot wait) = ⊥
 OnStage t (Storing slot done) = ⊥
 
--- ST1 20 and ST2 20, or ST1 10
-abbrev pub EndsSo : Verdict → Type 0
-EndsSo v = ((v .st1 ≡ 0x20) × (v .st2 ≡ 0x20)) ⊎ (v .st1 ≡ 0x10)
-
 abbrev pub siteAt : ℕ → ℕ → Geometry → Site
 siteAt drive side g = record { drive = drive; side = side; disk = g }
 
+-- the mark is of the other kind
+abbrev pub differs : Bool → Transfer → Bool
+differs kind transfer = not (Bool·beq kind (transfer .deleted))
+
+-- 01 Read: other kind of mark: ST2 40 from the match on
+abbrev pub otherIn : Bool → Stage → Bool
+otherIn other (Searching look) = false
+otherIn other (Turning slot) = false
+otherIn other (Reading sector done) = other
+otherIn other (Draining sector looks) = other
+otherIn other (Awaiting slot wait) = false
+otherIn other (Storing slot done) = false
+
+abbrev pub taskIn : Bool → Transfer → Id → Stage → Task
+taskIn other transfer id stage = record { transfer = transfer; id = id; other = otherIn other stage }
+
+-- 40, ST1 20, ST2 20 or 60 and the sector's address; or ST1 10, since it came late
+abbrev pub EndsSo : Bool → Site → Id → Type 0 → Verdict → Type 0
+EndsSo other site id L v =
+    ((v .st0 ≡ st0Of false (site .drive) (site .side)) × (v .st1 ≡ 0x20) × (v .st2 ≡ otherBit other + 0x20)
+    × (v .id ≡ id))
+    ⊎ ((v .st1 ≡ 0x10) × L)
+
 -- what a tick of it gives
-pub data Follow (t : ℕ) (site : Site) (task : Task) (o : Step) : Type 0 where
-  goes : (stage : Stage) (fifo : Fifo) → OnStage t stage → o ≡ movesOf stage site task fifo Nothing
-      → Follow t site task o
-  ends : (verdict : Verdict) → EndsSo verdict → o ≡ endsWith verdict Nothing → Follow t site task o
+pub data Follow (other : Bool) (t : ℕ) (site : Site) (transfer : Transfer) (id : Id) (L : Type 0) (o : Step) : Type 0
+  where
+    goes : (stage : Stage) (fifo : Fifo) → OnStage t stage
+        → o ≡ movesOf stage site (taskIn other transfer id stage) fifo Nothing → Follow other t site transfer id L o
+    ends : (verdict : Verdict) → EndsSo other site id L verdict → o ≡ endsWith verdict Nothing
+        → Follow other t site transfer id L o
 
 abbrev idOf : ℕ → ℕ → ℕ → ℕ → Id
 idOf c h r n = record { c = c; h = h; r = r; n = n }
@@ -124,8 +148,8 @@ read≢write p e f = let z : _≡_ {A = ℕ} 0 1 = cc in omega arith
 mark-kind : (m : Mark) (a b c d : Bool) → m ≡ Data a b → m ≡ Data c d → (c ≡ a) × (d ≡ b)
 mark-kind m a b c d e f = (cc, cc)
 
-module _ (g : Geometry) (img : List ℕ) (head drive side t : ℕ) (transfer : Transfer) (id : Id)
-    (b : StartsBroken g img head side t transfer id) where
+module _ (g : Geometry) (img : List ℕ) (head drive side t : ℕ) (kind : Bool) (transfer : Transfer) (id : Id)
+    (b : StartsBroken g img head side t kind transfer id) where
   hit : hits img (siteAt drive side g) head (taskOf transfer id) t ≡ true
   unfolding markPlace
   hit =
@@ -161,49 +185,70 @@ module _ (g : Geometry) (img : List ℕ) (head drive side t : ℕ) (transfer : T
 
   -- its mark, read where the search looks
   mark-here : (slot : ℕ) → slot ≤ t → hits img (siteAt drive side g) head (taskOf transfer id) slot ≡ true
-      → markOf (getD img (markPlace (siteAt drive side g) head slot) 0) ≡ Data (transfer .deleted) true
+      → markOf (getD img (markPlace (siteAt drive side g) head slot) 0) ≡ Data kind true
   unfolding markPlace
   mark-here slot l m = rw (here slot l m) (b .mark)
 
+  abbrev other : Bool
+  other = differs kind transfer
+
+  -- it is not skipped
+  no-skip : (k : Bool) → k ≡ kind → (k ≡ transfer .deleted → ⊥) → transfer .sk ≡ true → ⊥
+  no-skip k e n s = go (b .not-skipped)
+    where
+      go : (kind ≡ transfer .deleted) ⊎ (transfer .sk ≡ false) → ⊥
+      go (inl x) = n (e ∙ x)
+      go (inr x) = true≢false (sym s ∙ x)
+
   module _ (efifo : Bool) (fifothr : ℕ) (fifo : Fifo) (stage : Stage) (o : Step) where
+    abbrev site : Site
+    site = siteAt drive side g
+
+    abbrev L : Type 0
+    L = Late efifo site fifo stage
+
     pub follow-rule : OnStage t stage
-        → Rule head img efifo fifothr (siteAt drive side g) (taskOf transfer id) fifo stage o
-        → Follow t (siteAt drive side g) (taskOf transfer id) o
-    follow-rule w (notFound look verdict p m l n e) =
+        → Rule head img efifo fifothr site (taskIn other transfer id stage) fifo stage o
+        → Follow other t site transfer id L o
+    follow-rule w (notFound look verdict p m l n x y f e) =
         let u : look .slot ≤ t = rw p at w in
         absurd (omega (arith, before (look .slot) u m, b .has .on-track))
-    follow-rule w (noData look verdict p m k d e) =
+    follow-rule w (noData look verdict p m k d f e) =
         let u : look .slot ≤ t = rw p at w in
         absurd (data≢none _ _ (sym (mark-here (look .slot) u m) ∙ d))
-    follow-rule w (noSide slot verdict p e) = absurd (rw p at w)
-    follow-rule w (late verdict v e) = ends verdict (inr v) e
+    follow-rule w (noSide slot verdict p ns f e) = absurd (rw p at w)
+    follow-rule w (late verdict f l e) = ends verdict (inr (f .st1-is, l)) e
     follow-rule w (misses look on p m l s q e) =
         let u : look .slot ≤ t = rw p at w in
-        goes (Searching on) fifo (omega (arith, before (look .slot) u m)) e
+        goes (Searching on) fifo (omega (arith, before (look .slot) u m)) (rw p at e)
     follow-rule w (passes look on p m l z s q e) =
         let u : look .slot ≤ t = rw p at w in
         absurd (omega (arith, before (look .slot) u m, b .has .on-track))
     follow-rule w (toWrite look p m k e) = absurd (read≢write (transfer .pass) (b .reads) k)
-    follow-rule w (toRead look deleted broken other p m k d f e) =
+    follow-rule w (toRead look deleted broken other′ p m k d f ns e) =
         let u : look .slot ≤ t = rw p at w in
-        let (kind, whole) = mark-kind _ _ _ _ _ (mark-here (look .slot) u m) d in
-        goes _ fifo whole (rw (f kind) at e)
-    follow-rule w (skips look deleted broken p m k d f n) =
+        let (same, whole) = mark-kind _ _ _ _ _ (mark-here (look .slot) u m) d in
+        let f′ : other′ ≡ other = rw same at f in
+        goes (Reading (record { slot = look .slot; broken = broken; other = other }) 0) fifo whole (rw (p, f′) at e)
+    follow-rule w (skips look deleted broken p m k d f z n) =
         let u : look .slot ≤ t = rw p at w in
-        absurd (f (mark-kind _ _ _ _ _ (mark-here (look .slot) u m) d .0))
+        absurd (no-skip deleted (mark-kind _ _ _ _ _ (mark-here (look .slot) u m) d .0) f z)
     follow-rule w (turned-over slot p e) = absurd (rw p at w)
     follow-rule w (waits slot wait p l e) = absurd (rw p at w)
     follow-rule w (begins slot wait p l e) = absurd (rw p at w)
     follow-rule w (puts slot done p l k e) = absurd (rw p at w)
     follow-rule w (pads slot done p l k z e) = absurd (rw p at w)
     follow-rule w (finishes slot done p l n) = absurd (rw p at w)
-    follow-rule w (moves sector done fifo′ p l e) = goes (Reading sector (done + 1)) fifo′ (rw p at w) e
-    follow-rule w (moves-last sector done fifo′ p l e) = goes (Draining sector 0) fifo′ (rw p at w) e
-    follow-rule w (drains sector looks p l e) = goes (Draining sector (looks + 1)) fifo (rw p at w) e
-    follow-rule w (data-error sector looks verdict p k x y e) = ends verdict (inl (x, y refl)) e
-    follow-rule w (other-kind sector looks verdict p k e) =
+    follow-rule w (moves sector done fifo′ p l x e) =
+        goes (Reading sector (done + 1)) fifo′ (rw p at w) (rw p at e)
+    follow-rule w (moves-last sector done fifo′ p l x e) =
+        goes (Draining sector 0) fifo′ (rw p at w) (rw p at e)
+    follow-rule w (drains sector looks p l e) = goes (Draining sector (looks + 1)) fifo (rw p at w) (rw p at e)
+    follow-rule w (data-error sector looks verdict p k y f e) =
+        ends verdict (inl (f .st0, f .st1-is, rw p at y, f .id)) e
+    follow-rule w (other-kind sector looks verdict p k z ok os e) =
         let u : sector .broken ≡ true = rw p at w in
         absurd (true≢false (sym u ∙ k))
-    follow-rule w (drained sector looks p k n) =
+    follow-rule w (drained sector looks p k ok zc n) =
         let u : sector .broken ≡ true = rw p at w in
         absurd (true≢false (sym u ∙ k))

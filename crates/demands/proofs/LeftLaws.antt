@@ -24,7 +24,7 @@ use Rattle.image.specs.Slot.{idAt}
 use Rattle.image.specs.Sound.{markIn}
 use Rattle.sectors.specs.declared.order.Transfer.{Transfer}
 use Rattle.demands.specs.History.{Sector, Begun, no-one, some-of, History, fresh, noted, handed}
-use Rattle.demands.specs.PowerCut.{Aim, aimNo, Stands, HalfDone, AllFinished, BegunHalf, begunBytes, SparesAll, LeftBy}
+use Rattle.demands.specs.PowerCut.{Aim, aimNo, Followed, Counts, Stands, HalfDone, AllFinished, BegunHalf, begunBytes, SparesAll, LeftBy}
 use Rattle.demands.proofs.AddressLaws.{Behind, behind-differs, AllBehind, aim-byte}
 
 -- place p is one of the sector's whose mark stands at `at`
@@ -36,9 +36,9 @@ pub record Inside (g : Geometry) (at p : ℕ) : Type 0 where
 abbrev pub storedCount : Geometry → History → ℕ
 storedCount g h = length (h .finished) * sizeOf (g .n) + begunBytes (h .begun)
 
--- a slot with a mark above 0 had one before
+-- a slot with an ID had one before
 abbrev Marks : Geometry → List ℕ → List ℕ → Type 0
-Marks g old img = (c s k : ℕ) → Has g c s k → 0 < markIn g img c s k → 0 < markIn g old c s k
+Marks g old img = (c s k : ℕ) → Has g c s k → Counts (markIn g img c s k) → Counts (markIn g old c s k)
 
 module _ (g : Geometry) (cylinder : ℕ) (old : List ℕ) (fits : Fits g old) where
   stands-slot : (a : Aim) (at p : ℕ) (st : Stands g old cylinder a at) → Inside g at p
@@ -92,10 +92,10 @@ module _ (g : Geometry) (cylinder : ℕ) (old : List ℕ) (fits : Fits g old) wh
       let f : a .id ≡ b .id = sym (st .address) ∙ ap (idAt old) e ∙ su .address in
       behind-differs eot a b h d ss (ap (λ (x : Id). x .r) f)
 
-  marked-mark : (img : List ℕ) (at v : ℕ) → 0 < getD old at 0 → Marks g old img → Marks g old (set img at v)
+  marked-mark : (img : List ℕ) (at v : ℕ) → Counts (getD old at 0) → Marks g old img → Marks g old (set img at v)
   marked-mark img at v m ms c s k h t = go (eqb (offsetOf g c s k) at) refl
     where
-      go : (b : Bool) → eqb (offsetOf g c s k) at ≡ b → 0 < getD old (offsetOf g c s k) 0
+      go : (b : Bool) → eqb (offsetOf g c s k) at ≡ b → Counts (getD old (offsetOf g c s k) 0)
       go true e = rw (eqb-true (offsetOf g c s k) at e) m
       go false e = ms c s k h (rw (getD-set-other img at (offsetOf g c s k) v 0 (eqb-false
           (offsetOf g c s k) at e)) at t)
@@ -188,6 +188,8 @@ module _ (g : Geometry) (cylinder : ℕ) (transfer : Transfer) (aim : Aim) (old 
     finished = tt;
     begun = tt;
     ran-out = λ l. absurd (omega arith);
+    fed = λ k l. absurd (omega arith);
+    no-further = λ k l. absurd (omega arith);
     others = λ i a b. refl;
     ids = λ c s k h. refl;
     size = refl;
@@ -205,6 +207,8 @@ module _ (g : Geometry) (cylinder : ℕ) (transfer : Transfer) (aim : Aim) (old 
           finished = all-host img (h .host) byte (h .finished) (omega arith) (left .finished);
           begun = go (h .begun) (left .begun) (omega arith);
           ran-out = λ m. absurd (omega (arith, length-append (h .host) (byte ∷ [])));
+          fed = λ k m. omega (arith, left .fed k m, length-append (h .host) (byte ∷ []));
+          no-further = left .no-further;
           others = left .others;
           ids = left .ids;
           size = left .size;
@@ -229,7 +233,8 @@ module _ (g : Geometry) (cylinder : ℕ) (transfer : Transfer) (aim : Aim) (old 
 
     -- a sector begun: its broken mark
     module _ (none : h .begun ≡ no-one) (all : AllBehind transfer aim now) (at : ℕ) (st : Stands g old cylinder
-        (No now) at) where
+        (No now) at) (more : now * sizeOf (g .n) < length (h .host))
+        (on : (k : ℕ) → k < now → Followed transfer (No k)) where
       abbrev broken : ℕ
       broken = byteOf (Data (transfer .deleted) true)
 
@@ -259,6 +264,8 @@ module _ (g : Geometry) (cylinder : ℕ) (transfer : Transfer) (aim : Aim) (old 
               },
             );
             ran-out = λ l. left .ran-out (rw none (omega arith));
+            fed = λ k l. own-byte k (le-or-lt now k) l;
+            no-further = λ k l. on k (omega arith);
             others = λ i a b. getD-set-other img at i broken 0 (b .0) ∙ left .others i a (rw none tt);
             ids = λ c s k hh.
                 ids-stay g cylinder old fits img broken (No now) at at st own (λ j z l e. omega arith) c s k hh
@@ -266,6 +273,10 @@ module _ (g : Geometry) (cylinder : ℕ) (transfer : Transfer) (aim : Aim) (old 
             size = length-set img at broken ∙ left .size;
             marked = marked-mark g cylinder old fits img at broken (st .marked) (left .marked);
           })
+        where
+          own-byte : (k : ℕ) → (now ≤ k) ⊎ (k < now) → k < now + 1 → k * sizeOf (g .n) < length (h .host)
+          own-byte k (inl a) l = let z : k ≡ now = omega arith in rw z more
+          own-byte k (inr a) l = left .fed k (omega arith)
 
     module _ (at : ℕ) (bytes : List ℕ) (some : h .begun ≡ some-of at bytes) (all : AllBehind transfer aim now) where
       half : Stands g old cylinder (No now) at × HalfDone g (transfer .deleted) old img (h .host) now at (length bytes)
@@ -297,6 +308,8 @@ module _ (g : Geometry) (cylinder : ℕ) (transfer : Transfer) (aim : Aim) (old 
               },
             );
             ran-out = λ t. out (omega arith);
+            fed = λ k t. left .fed k (rw some t);
+            no-further = λ k t. left .no-further k (rw some t);
             others = λ i a b.
                 getD-set-other img p i v 0 (λ t. b .1 (omega arith) (omega arith))
                 ∙ left .others i a (rw some (b .0, λ x y. b .1 x (omega arith)));
@@ -340,6 +353,8 @@ module _ (g : Geometry) (cylinder : ℕ) (transfer : Transfer) (aim : Aim) (old 
             );
             begun = tt;
             ran-out = λ t. left .ran-out (rw some (omega arith));
+            fed = λ k t. left .fed k (rw some (omega arith));
+            no-further = λ k t. left .no-further k (rw some (omega arith));
             others = λ i a b. getD-set-other img at i good 0 (a .0 .0) ∙ left .others i (a .1) (rw some (a .0));
             ids = λ c s k hh.
                 ids-stay g cylinder old fits img good (No now) at at st own (λ j y w t. omega arith) c s k hh

@@ -1,3 +1,4 @@
+pub mod AcknowledgedLaws
 pub mod AddressLaws
 pub mod BoundLaws
 pub mod CallLaws
@@ -8,9 +9,13 @@ pub mod DataErrorLaws
 pub mod EndsLaws
 pub mod FifoStream
 pub mod FollowLaws
+pub mod HandedOverLaws
+pub mod HandedStream
+pub mod InTimeLaws
 pub mod LeftLaws
 pub mod OtherLaws
 pub mod PowerCutLaws
 pub mod QuietLaws
+pub mod RequestLaws
 pub mod StepsLaws
 pub mod TickRules

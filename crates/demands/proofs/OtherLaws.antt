@@ -3,7 +3,7 @@
 use Prim.Native.Nat.{ℕ}
 use mathlib.Core.Bool.{Bool, true, false, false≢true}
 use mathlib.Core.List.{List, [], _∷_}
-use mathlib.Core.Path.{_≡_, refl, sym, _∙_, subst}
+use mathlib.Core.Path.{_≡_, refl, sym, ap, _∙_, subst}
 use lib.Dec.{eqb}
 use borrow.Author.Tests.{ne-eqb}
 use Rattle.image.proofs.TestLaws.{by-test}
@@ -27,9 +27,10 @@ use Rattle.fdc.specs.Registers.{heldIn}
 use Rattle.fdc.specs.Runs.{Call, powers, reads, writes, takes, gives, ticks, notes, answerTo, after, runCalls}
 use Rattle.fdc.specs.Ticks.{steppedOf, stillOf, settledOf, decidedOf, decideIn, decideOf, ruledOf, tickOf, imageAfter}
 use Rattle.demands.specs.PowerCut.{OtherImage}
-use Rattle.demands.specs.Work.{atWork, Its}
+use Rattle.demands.specs.Work.{atWork, Its, Real}
 use Rattle.demands.proofs.CallLaws.{tick-starts, tick-works, call-rule}
-use Rattle.demands.proofs.CallRules.{Quiet, NoTick, CallRule, cut-off, goes-on}
+use Rattle.demands.proofs.CallRules.{NoTick, CallRule, cut-off, goes-on}
+use Rattle.demands.specs.Quiet.{Quiet}
 use Rattle.demands.proofs.QuietLaws.{quiet-real, quiet-after}
 
 -- a phase at work is of that drive
@@ -124,7 +125,7 @@ module _ (drive : ℕ) where
   call-of call c q w o n = go (call-rule call c q w n)
     where
       go : CallRule call c (after call c) → Of drive (after call c .phase)
-      go (cut-off e h) = over-of drive (after call c .phase) e
+      go (cut-off e h) = over-of drive (after call c .phase) (ap atWork e)
       go (goes-on k f) = subst (Of drive) (sym (k .phase)) o
 
   of-after : (call : Call) (c : Controller) → Quiet c → atWork (c .phase) ≡ true → Of drive (c .phase)
@@ -146,6 +147,9 @@ module _ (drive : ℕ) where
       of-run calls (after call c) (quiet-after call c q (i .0)) (i .1) (of-after call c q (i .0) o) k n a b img
 
 -- Demand 3: the other image untouched, whatever it holds at each tick
-pub other-image : OtherImage
-other-image c r order e calls its k n a b img =
-    of-run (order .drive) calls c (quiet-real c r) its (subst (Of (order .drive)) (sym e) refl) k n a b img
+pub other-image-quiet : OtherImage Quiet
+other-image-quiet c q order e calls its k n a b img =
+    of-run (order .drive) calls c q its (subst (Of (order .drive)) (sym e) refl) k n a b img
+
+pub other-image : OtherImage Real
+other-image c r = other-image-quiet c (quiet-real c r)

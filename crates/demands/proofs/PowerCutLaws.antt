@@ -3,8 +3,9 @@
 use Prim.Native.Nat.{ℕ, _+_, _*_, _%_, _<_}
 use native.Mathlib.Nat.{mod-eq-of-lt}
 use native.Mathlib.Omega.{arith}
-use mathlib.Core.Bool.{Bool, true, false, not, _&&_, _||_, or-true, false≢true}
+use mathlib.Core.Bool.{Bool, true, false, not, _&&_, _||_, or-true, false≢true, true≢false}
 use mathlib.Core.List.{List, [], _∷_}
+use mathlib.Core.Logic.{inr}
 use mathlib.Core.Path.{_≡_, refl, sym, ap, _∙_, subst}
 use lib.Dec.{ltb}
 use borrow.Author.Tests.{ltb-true, eq-eqb, not-false}
@@ -18,7 +19,7 @@ use Rattle.image.specs.Disk.{Fits, diskIn}
 use Rattle.image.specs.Layout.{sizeOf}
 use Rattle.image.specs.Lent.{pickOf, storedAs}
 use Rattle.chip.specs.declared.fifo.Fifo.{Fifo}
-use Rattle.chip.specs.Fifo.{emptied, openedOf, givenOf}
+use Rattle.chip.specs.Fifo.{fullOf, emptied, openedOf, givenOf}
 use Rattle.chip.specs.Fifo.{Fits as FitsFifo}
 use Rattle.sectors.specs.declared.order.Job.the-variants.{Move}
 use Rattle.sectors.specs.declared.order.Order.{Order}
@@ -32,28 +33,31 @@ use Rattle.sectors.specs.declared.work.Task.{Task}
 use Rattle.sectors.specs.declared.work.Then.{Then}
 use Rattle.sectors.specs.declared.work.Then.the-variants.{Ends, Works}
 use Rattle.sectors.specs.declared.work.Work.the-variants.{Identifying, Moving, Formatting}
-use Rattle.engine.specs.First.{changes, gateOf, movingOf, startOf, enteredOf, beginOf}
-use Rattle.sectors.specs.Result.{endOf, moveEnd, moveFails}
+use Rattle.engine.specs.First.{changes, gateOf, givenId, movingOf, startOf, enteredOf, beginOf}
+use Rattle.sectors.specs.declared.work.Verdict.{Verdict}
+use Rattle.sectors.specs.Result.{st0Of, otherBit, endOf, moveEnd, moveFails}
 use Rattle.engine.specs.Step.{toHost, lostOf, workOf, goOnOf, passFlow}
 use Rattle.sectors.specs.Track.{hasTrack, staysOf}
 use Rattle.fdc.specs.declared.record.Controller.{Controller}
 use Rattle.fdc.specs.declared.record.Phase.{Phase}
-use Rattle.fdc.specs.declared.record.Phase.the-variants.{Starting, Working}
+use Rattle.fdc.specs.declared.record.Phase.the-variants.{Idle, Starting, Working, Answering}
 use Rattle.fdc.specs.declared.ticks.Decision.{Decision}
-use Rattle.fdc.proofs.GoodLaws.{Suits}
+use Rattle.fdc.specs.Good.{Suits}
 use Rattle.fdc.specs.Answer.{answerOf}
 use Rattle.fdc.specs.Commands.{answeredOf}
 use Rattle.fdc.specs.Data.{phaseToHost, phaseHears}
 use Rattle.fdc.specs.Record.{driveAt, withFifo, withPhase}
 use Rattle.fdc.specs.Registers.{motorIn}
-use Rattle.fdc.specs.Runs.{Call, powers, reads, writes, takes, gives, ticks, notes, answerTo, after}
+use Rattle.fdc.specs.Runs.{Call, powers, reads, writes, takes, gives, ticks, notes, answerTo, after, runCalls}
 use Rattle.fdc.specs.Ticks.{seenOf, settledOf, decidedOf, ruledOf, tickOf, imageAfter}
+use Rattle.demands.specs.Acknowledged.{resultByte, resultId, Acknowledges}
 use Rattle.demands.specs.History.{History, fresh, noted, handed, historyBy, historyOf}
-use Rattle.demands.specs.PowerCut.{Aim, headOf, PowerCut}
-use Rattle.demands.specs.Work.{atWork, Its, imageBy, imageLeft, Handed, Alone}
+use Rattle.demands.specs.PowerCut.{Writes, Aim, headOf, PowerCut}
+use Rattle.demands.specs.Work.{atWork, Its, imageBy, imageLeft, Handed, Alone, Real}
 use Rattle.demands.proofs.CallLaws.{tick-starts, tick-works, call-rule}
-use Rattle.demands.proofs.CallRules.{Quiet, NoTick, FifoRule, same, took, gave, Keeps, CallRule, cut-off, goes-on}
-use Rattle.demands.proofs.CutLaws.{Sofar, Busy, OnThen, OnStep, busy-rule}
+use Rattle.demands.proofs.CallRules.{NoTick, FifoRule, same, took, gave, Keeps, CallRule, cut-off, goes-on}
+use Rattle.demands.specs.Quiet.{Quiet}
+use Rattle.demands.proofs.CutLaws.{some≢none, Sofar, Busy, Says, OnThen, OnStep, fails-says, busy-rule}
 use Rattle.demands.proofs.FifoStream.{Open, open-opened, open-given, stream-fresh, stream-within, held-given}
 use Rattle.demands.proofs.LeftLaws.{storedCount, left-fresh, left-handed}
 use Rattle.demands.proofs.QuietLaws.{quiet-real, quiet-after}
@@ -67,6 +71,19 @@ told-tc efifo tc hears told byte f a o e =
     let e′ : (f .tc || (tc && hears)) ≡ true = rw (o .room a) at e in
     let e″ : (tc && hears) ≡ true = rw (o .before-tc a) at e′ in
     rw (both tc hears e″ .0, or-true told)
+
+heard-tc : (efifo tc hears told : Bool) (byte : ℕ) (f : Fifo) → hears ≡ true → f .asks ≡ true → Open efifo f
+    → (told ≡ true → f .tc ≡ true) → (told || tc) ≡ true → givenOf efifo (tc && hears) byte f .tc ≡ true
+unfolding givenOf
+heard-tc efifo tc hears true byte f y a o k e = rw (o .room a, k refl)
+heard-tc efifo tc hears false byte f y a o k e = rw (o .room a, e, y, or-true (f .tc))
+
+given-some : (efifo tc : Bool) (byte : ℕ) (f : Fifo) → fullOf efifo f ≡ false → 0 < givenOf efifo tc byte f .count
+unfolding givenOf
+given-some efifo tc byte f e = rw e (omega arith)
+
+idle≢answering : (loud : Bool) → Idle ≡ Answering loud → ⊥
+idle≢answering loud e = let z : _≡_ {A = ℕ} 0 1 = cc in omega arith
 
 -- only a tick changes an image
 image-same : (drive : ℕ) (img : List ℕ) (call : Call) (c : Controller) → NoTick call → imageBy drive img call c ≡ img
@@ -99,6 +116,23 @@ module _ (g : Geometry) (cylinder : ℕ) (order : Order) (transfer : Transfer) (
   abbrev Gives : Bool → Step → List ℕ → History → Type 0
   Gives efifo o img h = OnStep g cylinder drive transfer aim old efifo o img h
 
+  abbrev Says-so : Verdict → History → Type 0
+  Says-so verdict h = Says g cylinder drive transfer aim old verdict h
+
+  -- 01 Data commands: an end in the first tick says that nothing is done
+  shut-says : (st1 st2 : ℕ) → (st1 ≡ 0x80 → ⊥)
+      → Says-so (record { st0 = st0Of false drive (order .side); st1 = st1; st2 = st2; id = id }) fresh
+  shut-says st1 st2 other =
+      record {
+        address = refl;
+        normal = λ l. absurd (omega arith);
+        safe = λ a. absurd (false≢true (a .told));
+        clean = λ l. absurd (omega arith);
+        no-more = λ l. absurd (omega arith);
+        past-eot = λ e. absurd (other e);
+        broken = λ at bytes e. absurd (some≢none at bytes (sym e));
+      }
+
   done-fresh : Done old fresh
   done-fresh = left-fresh g cylinder transfer aim old fits hr
 
@@ -120,9 +154,11 @@ module _ (g : Geometry) (cylinder : ℕ) (order : Order) (transfer : Transfer) (
           disk = refl;
           drive-is = refl;
           told-to = refl;
+          plain = refl;
           side = refl;
           id = refl;
           all = λ m l. absurd (omega arith);
+          on = λ k l. absurd (omega arith);
           link = (
             record {
               on-disk = ltb-true _ _ on-disk;
@@ -134,30 +170,42 @@ module _ (g : Geometry) (cylinder : ℕ) (order : Order) (transfer : Transfer) (
           request = open-opened efifo;
           stream = stream-fresh (0 * sizeOf (g .n) + 0) false (omega arith);
           tc = λ e. absurd (false≢true e);
+          heard = λ e. absurd (false≢true e);
+          more = λ e n. absurd (false≢true e);
           sofar = done-fresh;
         })
 
     first-present : Gives efifo (beginOf order (Present g) cylinder emptied) old fresh
-    unfolding beginOf enteredOf gateOf startOf endOf
+    unfolding beginOf enteredOf gateOf startOf givenId endOf
     first-present = rw moves
         (by-test (not (hasTrack g cylinder (order .side)))
         (λ x. Gives efifo (enteredOf x (Move transfer id) drive (order .side) cylinder emptied) old fresh) _ _
-        (λ t. done-fresh)
+        (λ t. (done-fresh, shut-says 0x01 0x00 (λ e. omega arith)))
         (λ t.
         by-test (changes (Move transfer id) && g .protect)
         (λ x. Gives efifo (enteredOf x (Move transfer id) drive (order .side) cylinder emptied) old fresh) _ _
-        (λ u. done-fresh)
+        (λ u. (done-fresh, shut-says 0x02 0x00 (λ e. omega arith)))
         (λ u. first-busy (not-false (hasTrack g cylinder (order .side)) t))))
 
     first-absent : Gives efifo (beginOf order Absent cylinder emptied) old fresh
-    unfolding beginOf enteredOf gateOf endOf
-    first-absent = done-fresh
+    unfolding beginOf enteredOf gateOf givenId endOf
+    first-absent = rw moves (done-fresh, shut-says 0x01 0x00 (λ e. omega arith))
 
     first-step : (dor : ℕ) → Gives efifo (beginOf order (seenOf dor drive old) cylinder emptied) old fresh
     unfolding seenOf
     first-step dor =
         by-test (motorIn dor drive) (λ (d : Disk). Gives efifo (beginOf order d cylinder emptied) old fresh) _ _
         (λ t. rw disk first-present) (λ t. first-absent)
+
+  -- 01 Data commands: a drive emptied or header changed later
+  abbrev lost : Site → Task → Verdict
+  lost site task =
+      record {
+        st0 = st0Of false (site .drive) (site .side);
+        st1 = 0x01;
+        st2 = otherBit (task .other) + 0x00;
+        id = task .id;
+      }
 
   -- A later tick.
   later-step : (efifo : Bool) (fifothr : ℕ) (site : Site) (task : Task) (stage : Stage) (fifo : Fifo) (img : List ℕ)
@@ -169,28 +217,41 @@ module _ (g : Geometry) (cylinder : ℕ) (order : Order) (transfer : Transfer) (
       (λ t.
       busy-rule g cylinder drive transfer aim old fits hr he wr efifo fifothr b _ f refl
       (transfer-rule cylinder img efifo fifothr site task fifo stage))
-      (λ t. b .sofar)
+      (λ t. (
+        b .sofar,
+        fails-says g cylinder drive transfer aim old fits hr he wr efifo fifothr b (lost site task) 0x01 f
+            (record { st0 = refl; st1-is = refl; id = refl }) (λ e. omega arith) (inr (inr refl)),
+      ))
+
+  -- what the result in the record says
+  abbrev Told : Controller → History → Type 0
+  Told c h = Acknowledges g transfer aim h (resultByte 0 c) (resultByte 1 c) (resultByte 2 c) (resultId c)
 
   -- The record: the command is over, has not had its first tick, or is at it.
-  data Run (c : Controller) (img : List ℕ) (h : History) : Type 0 where
-    is-over : atWork (c .phase) ≡ false → Done img h → Run c img h
+  pub data Run (c : Controller) (img : List ℕ) (h : History) : Type 0 where
+    is-over : atWork (c .phase) ≡ false → Done img h → (c .phase ≡ Answering true → Told c h) → Run c img h
     to-start : c .phase ≡ Starting order → driveAt drive (c .drives) .head ≡ cylinder → img ≡ old → h ≡ fresh
         → Run c img h
     at-it : (site : Site) (task : Task) (stage : Stage) → c .phase ≡ Working (Moving site task stage)
         → driveAt drive (c .drives) .head ≡ cylinder → Works-on (c .registers .efifo) site task stage (c .fifo) img h
         → Run c img h
 
-  run-done : {c : Controller} {img : List ℕ} {h : History} → Run c img h → Done img h
-  run-done (is-over w k) = k
+  pub run-done : {c : Controller} {img : List ℕ} {h : History} → Run c img h → Done img h
+  run-done (is-over w k t) = k
   run-done (to-start p u i e) = rw (i, e) done-fresh
   run-done (at-it site task stage p u b) = b .sofar
+
+  pub run-told : {c : Controller} {img : List ℕ} {h : History} → Run c img h → c .phase ≡ Answering true → Told c h
+  run-told (is-over w k t) e = t e
+  run-told (to-start p u i z) e = absurd (true≢false (ap atWork (sym p ∙ e)))
+  run-told (at-it site task stage p u b) e = absurd (true≢false (ap atWork (sym p ∙ e)))
 
   settled-run : (then : Then) (fifo : Fifo) (c : Controller) (img : List ℕ) (h : History)
       → driveAt drive (c .drives) .head ≡ cylinder
       → OnThen g cylinder drive transfer aim old (c .registers .efifo) then fifo img h
       → Run (settledOf then fifo c) img h
   unfolding settledOf answeredOf withFifo withPhase
-  settled-run (Ends verdict) fifo c img h u k = is-over refl k
+  settled-run (Ends verdict) fifo c img h u k = is-over refl (k .0) (λ e. k .1)
   settled-run (Works (Identifying site slot looks)) fifo c img h u k = absurd k
   settled-run (Works (Moving site task stage)) fifo c img h u k = at-it site task stage refl u k
   settled-run (Works (Formatting site plan form)) fifo c img h u k = absurd k
@@ -216,7 +277,7 @@ module _ (g : Geometry) (cylinder : ℕ) (order : Order) (transfer : Transfer) (
   run-tick : (a b : List ℕ) (c : Controller) (img : List ℕ) (h : History) → Quiet c → atWork (c .phase) ≡ true
       → pickOf drive a b ≡ img → Run c img h
       → Run (after (ticks a b) c) (imageBy drive img (ticks a b) c) (historyBy (ticks a b) c h)
-  run-tick a b c img h q w e (is-over n k) = absurd (false≢true (sym n ∙ w))
+  run-tick a b c img h q w e (is-over n k t) = absurd (false≢true (sym n ∙ w))
   run-tick a b c img h q w e (to-start p u i f) =
       tick-run a b c img h drive _ (tick-starts a b c order q p) refl u
       (rw (e, i, f, head-is c u, empty-start (c .phase) _ (c .fifo) p (q .good .phase))
@@ -231,21 +292,25 @@ module _ (g : Geometry) (cylinder : ℕ) (order : Order) (transfer : Transfer) (
 
   -- A byte from the host.
   busy-given : (efifo : Bool) (site : Site) (task : Task) (stage : Stage) (fifo : Fifo) (img : List ℕ) (h : History)
-      (byte : ℕ) (tc hears : Bool) → FitsFifo efifo fifo → fifo .asks ≡ true → Works-on efifo site task stage fifo img h
+      (byte : ℕ) (tc hears : Bool) → hears ≡ true → FitsFifo efifo fifo → fifo .asks ≡ true → Works-on efifo site task stage fifo img h
       → Works-on efifo site task stage (givenOf efifo (tc && hears) byte fifo) img (handed byte tc h)
-  busy-given efifo site task stage fifo img h byte tc hears f a b =
+  busy-given efifo site task stage fifo img h byte tc hears y f a b =
       let within = stream-within (h .host) _ (storedCount g h) (fifo .tc) (b .request .before-tc a) (b .stream) in
       record {
         disk = b .disk;
         drive-is = b .drive-is;
         told-to = b .told-to;
+        plain = b .plain;
         side = b .side;
         id = b .id;
         all = b .all;
+        on = b .on;
         link = b .link;
         request = open-given efifo (tc && hears) byte fifo a (b .request);
         stream = held-given efifo fifo f (h .host) (storedCount g h) (tc && hears) byte a (b .request) (b .stream);
         tc = told-tc efifo tc hears (h .told) byte fifo a (b .request);
+        heard = heard-tc efifo tc hears (h .told) byte fifo y a (b .request) (b .heard);
+        more = λ t n. given-some efifo (tc && hears) byte fifo (b .request .room a);
         sofar = left-handed g cylinder transfer aim old fits hr img h (b .sofar) byte tc within;
       }
 
@@ -262,27 +327,28 @@ module _ (g : Geometry) (cylinder : ℕ) (order : Order) (transfer : Transfer) (
   -- A call that is no tick.
   kept-run : (call : Call) (c e : Controller) (img : List ℕ) (h : History) → Quiet c → atWork (c .phase) ≡ true
       → Keeps c e → FifoRule call c e → Run c img h → Run e img (historyBy call c h)
-  kept-run call c e img h q w k r (is-over n d) = absurd (false≢true (sym n ∙ w))
+  kept-run call c e img h q w k r (is-over n d t) = absurd (false≢true (sym n ∙ w))
   kept-run call c e img h q w k (same f n) (to-start p u i z) =
       to-start (k .phase ∙ p) (k .heads drive hd ∙ u) i (n h ∙ z)
-  kept-run call c e img h q w k (took tc t f n) (to-start p u i z) = absurd (false≢true (rw p at t))
+  kept-run call c e img h q w k (took tc m t f n) (to-start p u i z) = absurd (false≢true (rw p at t))
   kept-run call c e img h q w k (gave byte tc t a f n) (to-start p u i z) = absurd (false≢true (rw p at t))
   kept-run call c e img h q w k (same f n) (at-it site task stage p u b) =
       at-it site task stage (k .phase ∙ p) (k .heads drive hd ∙ u) (rw (k .efifo, f, n h) b)
-  kept-run call c e img h q w k (took tc t f n) (at-it site task stage p u b) =
+  kept-run call c e img h q w k (took tc m t f n) (at-it site task stage p u b) =
       not-to-host (c .registers .efifo) site task stage (c .fifo) img h (c .phase) b p t
   kept-run call c e img h q w k (gave byte tc t a f n) (at-it site task stage p u b) =
       at-it site task stage (k .phase ∙ p) (k .heads drive hd ∙ u)
       (rw (k .efifo, f, n h)
       (busy-given (c .registers .efifo) site task stage (c .fifo) img h byte tc (phaseHears (c .phase))
-      (q .good .fifo) a b))
+      (rw p) (q .good .fifo) a b))
 
   call-run : (call : Call) (c : Controller) (img : List ℕ) (h : History) → Quiet c → atWork (c .phase) ≡ true
       → NoTick call → Run c img h → Run (after call c) (imageBy drive img call c) (historyBy call c h)
   call-run call c img h q w n r = rw (image-same drive img call c n) (go (call-rule call c q w n))
     where
       go : CallRule call c (after call c) → Run (after call c) img (historyBy call c h)
-      go (cut-off o same-h) = is-over o (rw (same-h h) (run-done r))
+      go (cut-off o same-h) =
+          is-over (ap atWork o) (rw (same-h h) (run-done r)) (λ e. absurd (idle≢answering true (sym o ∙ e)))
       go (goes-on k f) = kept-run call c (after call c) img h q w k f r
 
   run-after : (call : Call) (c : Controller) (img : List ℕ) (h : History) → Quiet c → atWork (c .phase) ≡ true
@@ -295,21 +361,37 @@ module _ (g : Geometry) (cylinder : ℕ) (order : Order) (transfer : Transfer) (
   run-after (ticks a b) c img h q w e r = run-tick a b c img h q w e r
   run-after (notes drive′) c img h q w e r = call-run (notes drive′) c img h q w tt r
 
-  run-all : (calls : List Call) (c : Controller) (img : List ℕ) (h : History) → Quiet c → Its calls c
-      → Alone drive img calls c → Run c img h → Done (imageLeft drive img calls c) (historyOf calls c h)
-  unfolding Its Alone imageLeft historyOf
-  run-all [] c img h q i a r = run-done r
+  pub run-all : (calls : List Call) (c : Controller) (img : List ℕ) (h : History) → Quiet c → Its calls c
+      → Alone drive img calls c → Run c img h → Run (runCalls calls c) (imageLeft drive img calls c) (historyOf calls c h)
+  unfolding Its Alone imageLeft historyOf runCalls
+  run-all [] c img h q i a r = r
   run-all (call ∷ calls) c img h q i a r =
       let (handed-it, alone) = a (i .0) in
       run-all calls (after call c) (imageBy drive img call c) (historyBy call c h) (quiet-after call c q (i .0))
       (i .1) alone
       (run-after call c img h q (i .0) handed-it r)
 
+-- after any of a write command's calls
+module _ (c : Controller) (quiet : Quiet c) (order : Order) (transfer : Transfer) (id : Id)
+    (w : Writes c order transfer id)
+    (old : List ℕ) (g : Geometry) (disk : diskIn old ≡ Present g) (calls : List Call) (its : Its calls c)
+    (alone : Alone (order .drive) old calls c) where
+  pub proper : (order .drive < 4) × (order .side < 2) × (id .r < 256) × (transfer .eot < 256)
+  proper =
+      let (hd, hs, job) = rw (w .accepted) at (quiet .proper) in
+      let (hr, he) = rw (w .moves) at job in
+      (hd, hs, hr, he)
+
+  pub ran : Run g (headOf order c) order transfer id old disk (w .moves) (w .writes) (proper .2) (proper .3) (proper .0)
+      (runCalls calls c) (imageLeft (order .drive) old calls c) (historyOf calls c fresh)
+  ran =
+      run-all g (headOf order c) order transfer id old disk (w .moves) (w .writes) (proper .2) (proper .3) (proper .0)
+      calls c old fresh quiet its alone (to-start (w .accepted) refl refl refl)
+
 -- Demand 3: finished sectors, the one begun, every other byte, after any of a write command's calls
-pub power-cut : PowerCut
-power-cut c order transfer id w old g disk calls its alone =
-    let q = quiet-real c (w .real) in
-    let (hd, _, job) = rw (w .accepted) at (q .proper) in
-    let (hr, he) = rw (w .moves) at job in
-    run-all g (headOf order c) order transfer id old disk (w .moves) (w .writes) hr he hd calls c old fresh q its alone
-    (to-start (w .accepted) refl refl refl)
+pub power-cut-quiet : PowerCut Quiet
+power-cut-quiet c q order transfer id w old g disk calls its alone =
+    run-done _ _ _ _ _ _ _ _ _ _ _ _ (ran c q order transfer id w old g disk calls its alone)
+
+pub power-cut : PowerCut Real
+power-cut c r = power-cut-quiet c (quiet-real c r)

@@ -148,11 +148,12 @@ use Rattle.fdc.specs.Ticks.{
   ruledOf,
   tickOf,
 }
-use Rattle.fdc.proofs.GoodLaws.{Good, good-power-on, good-after}
+use Rattle.fdc.specs.Good.{Good}
+use Rattle.fdc.proofs.GoodLaws.{good-power-on, good-after}
 use Rattle.fdc.proofs.MoveLaws.{reporter-reports}
 use Rattle.fdc.proofs.StandLaws.{tick-stands, stepped-stands}
 use Rattle.demands.specs.Work.{OfBytes, AllOfBytes, Real, atWork}
-use Rattle.demands.proofs.CallRules.{Proper, AllBytes, Each, StandsStill, Settled, Inner, Quiet}
+use Rattle.demands.specs.Quiet.{Proper, AllBytes, Each, StandsStill, Settled, Inner, Quiet}
 
 -- lists of bytes
 bytes-zeros : (n : ℕ) → AllBytes (replicate n 0)

@@ -29,7 +29,7 @@ use Rattle.fdc.proofs.GoodLaws.{good-valid}
 use Rattle.fdc.proofs.SeekLaws.{seek-on-time, recalibrate-on-time}
 use Rattle.demands.specs.EndsInTime.{Completes, byteNo, SeeksOnTime, RecalibratesOnTime}
 use Rattle.demands.specs.Work.{Real}
-use Rattle.demands.proofs.CallRules.{Quiet}
+use Rattle.demands.specs.Quiet.{Quiet}
 use Rattle.demands.proofs.QuietLaws.{quiet-real, spec1-real}
 
 run-more : (calls more : List Call) (c : Controller) → runCalls (calls ++ more) c ≡ runCalls more (runCalls calls c)

@@ -3,15 +3,17 @@
 -- Assumes nothing.
 use Prim.Native.Nat.{ℕ, zero, suc, _+_, _≤_, _<_}
 use native.Mathlib.Omega.{arith}
-use mathlib.Core.Bool.{Bool, Bool·beq, true, false, _&&_, not, true≢false}
+use mathlib.Core.Bool.{Bool, Bool·beq, true, false, _&&_, not, cond, true≢false}
 use mathlib.Core.List.{List}
-use mathlib.Core.Path.{_≡_, refl, ap, _∙_}
+use mathlib.Core.Logic.{_⊎_, inl, inr}
+use mathlib.Core.Path.{_≡_, refl, sym, ap, _∙_}
 use lib.Dec.{eqb, leb}
+use lib.ListN.{getD}
 use borrow.Author.Tests.{leb-true, leb-false, eqb-true, eqb-false, lt-ltb, le-ltb}
 use Rattle.image.proofs.TestLaws.{by-test, both}
 use Rattle.chip.specs.declared.fifo.Fifo.{Fifo}
 use Rattle.chip.specs.declared.next.Next.{Next}
-use Rattle.chip.specs.Fifo.{frontOf, drawnOf, emptied, fullOf}
+use Rattle.chip.specs.Fifo.{frontOf, filledOf, drawnOf, emptied, fullOf}
 use Rattle.chip.specs.Next.{advancedOf, nextOf}
 use Rattle.sectors.specs.declared.order.Pass.{Pass}
 use Rattle.sectors.specs.declared.order.Pass.the-variants.{Read, Write}
@@ -26,7 +28,7 @@ use Rattle.sectors.specs.declared.work.Then.the-variants.{Ends}
 use Rattle.sectors.specs.declared.work.Verdict.{Verdict}
 use Rattle.sectors.specs.Follow.{freshAt, withId, onSide, followedOf, followOf, turnOf}
 use Rattle.sectors.specs.Read.{overrun, lastByte, readOn, readOf, drainedOf, drainOf}
-use Rattle.sectors.specs.Result.{endOf, moveEnd, moveFails, movesOf}
+use Rattle.sectors.specs.Result.{st0Of, otherBit, endOf, moveEnd, moveFails, movesOf}
 use Rattle.sectors.specs.Search.{slotOf, matches, withOther, secondPass, oneOn, missedOf, readFound, dataFound, bareFound, lookedOf, searchOf}
 use Rattle.sectors.specs.Search as finding
 use Rattle.engine.specs.Step.{stageOf}
@@ -37,6 +39,7 @@ use Rattle.image.specs.declared.lent.Effect.the-variants.{Nothing, Store}
 use Rattle.image.specs.declared.mark.Mark.{Mark}
 use Rattle.image.specs.declared.mark.Mark.the-variants.{NoId, Data, NoData}
 use Rattle.image.specs.Mark.{markOf}
+use Rattle.demands.specs.InTime.{Late}
 
 -- the slot has an ID, and it is the one sought
 abbrev pub marked : Mark → Bool
@@ -53,31 +56,55 @@ hits img site head task slot =
 abbrev pub endsWith : Verdict → Effect → Step
 endsWith verdict effect = record { then = Ends verdict; fifo = emptied; effect = effect }
 
+-- 01 Result: of an end that is no Next: 40, this ST1, the sector in hand
+pub record Fails (st1 : ℕ) (site : Site) (task : Task) (verdict : Verdict) : Type 0 where
+  pub st0 : verdict .st0 ≡ st0Of false (site .drive) (site .side)
+  pub st1-is : verdict .st1 ≡ st1
+  pub id : verdict .id ≡ task .id
+
+-- 01 Next, Result: where Next ends it: normally with TC, else at EOT with 40 and ST1 80; the address is the next one
+pub record NextEnds (tc : Bool) (site : Site) (task : Task) (verdict : Verdict) : Type 0 where
+  pub st0 : verdict .st0 ≡ st0Of tc (site .drive) (site .side)
+  pub st1 : verdict .st1 ≡ cond tc 0x00 0x80
+  pub st2 : verdict .st2 ≡ otherBit (task .other)
+  pub id : verdict .id ≡ advancedOf (task .id) (task .transfer .eot) (task .transfer .mt) (site .side)
+  pub eot : tc ≡ false → task .id .r ≡ task .transfer .eot
+
 -- 01 Next, of a sector finished or skipped
-pub data NextRule (slot : ℕ) (site : Site) (task : Task) (fifo : Fifo) (effect : Effect) (o : Step) : Type 0 where
-  stops : (verdict : Verdict) → o ≡ endsWith verdict effect → NextRule slot site task fifo effect o
-  turns : task .id .r ≡ task .transfer .eot → task .transfer .mt ≡ true → site .side ≡ 0
+pub data NextRule (tc : Bool) (slot : ℕ) (site : Site) (task : Task) (fifo : Fifo) (effect : Effect) (o : Step)
+    : Type 0 where
+  stops : (verdict : Verdict) → NextEnds tc site task verdict → o ≡ endsWith verdict effect
+      → NextRule tc slot site task fifo effect o
+  turns : tc ≡ false → task .id .r ≡ task .transfer .eot → task .transfer .mt ≡ true → site .side ≡ 0
       → o ≡ movesOf (Turning (nextSlot slot (site .disk .slots))) (onSide 1 site)
       (withId (advancedOf (task .id) (task .transfer .eot) (task .transfer .mt) (site .side)) task) fifo effect
-      → NextRule slot site task fifo effect o
-  steps : (task .id .r ≡ task .transfer .eot → ⊥)
+      → NextRule tc slot site task fifo effect o
+  steps : tc ≡ false → (task .id .r ≡ task .transfer .eot → ⊥)
       → o ≡ movesOf (Searching (freshAt (nextSlot slot (site .disk .slots)))) site
       (withId (advancedOf (task .id) (task .transfer .eot) (task .transfer .mt) (site .side)) task) fifo effect
-      → NextRule slot site task fifo effect o
+      → NextRule tc slot site task fifo effect o
+
+-- 01 Read: one byte further: the FIFO gets the sector's byte, unless TC came; it was not full
+pub record Filled (head : ℕ) (img : List ℕ) (efifo : Bool) (fifothr : ℕ) (site : Site) (fifo : Fifo) (sector : Sector)
+    (done : ℕ) (last : Bool) (fifo′ : Fifo) : Type 0 where
+  pub room : fifo .tc ≡ false → fullOf efifo fifo ≡ false
+  pub after : fifo′ ≡ filledOf efifo fifothr last (getD img (dataPlace site head (sector .slot) done) 0) fifo
 
 -- a tick of a transfer whose disk is as it was
 pub data Rule (head : ℕ) (img : List ℕ) (efifo : Bool) (fifothr : ℕ) (site : Site) (task : Task) (fifo : Fifo)
     (stage : Stage) (o : Step) : Type 0 where
   -- the ends that are no Next, nor of a sector read to its end: ST1 01, 04 (not found), 10 (late), 01 with ST2 01
   notFound : (look : Search) (verdict : Verdict) → stage ≡ Searching look → hits img site head task (look .slot) ≡ false
-      → site .disk .slots ≤ look .slot + 1 → 1 ≤ look .passes → o ≡ endsWith verdict Nothing
+      → site .disk .slots ≤ look .slot + 1 → 1 ≤ look .passes
+      → (st1 : ℕ) → (st1 ≡ 0x01) ⊎ (st1 ≡ 0x04) → Fails st1 site task verdict → o ≡ endsWith verdict Nothing
       → Rule head img efifo fifothr site task fifo stage o
   noData : (look : Search) (verdict : Verdict) → stage ≡ Searching look → hits img site head task (look .slot) ≡ true
       → task .transfer .pass ≡ Read → markOf (slotOf img site head (look .slot) .mark) ≡ NoData
-      → o ≡ endsWith verdict Nothing → Rule head img efifo fifothr site task fifo stage o
-  noSide : (slot : ℕ) (verdict : Verdict) → stage ≡ Turning slot → o ≡ endsWith verdict Nothing
+      → Fails 0x01 site task verdict → o ≡ endsWith verdict Nothing → Rule head img efifo fifothr site task fifo stage o
+  noSide : (slot : ℕ) (verdict : Verdict) → stage ≡ Turning slot → hasTrack (site .disk) head (site .side) ≡ false
+      → Fails 0x01 site task verdict → o ≡ endsWith verdict Nothing
       → Rule head img efifo fifothr site task fifo stage o
-  late : (verdict : Verdict) → verdict .st1 ≡ 0x10 → o ≡ endsWith verdict Nothing
+  late : (verdict : Verdict) → Fails 0x10 site task verdict → Late efifo site fifo stage → o ≡ endsWith verdict Nothing
       → Rule head img efifo fifothr site task fifo stage o
   -- the search
   misses : (look on : Search) → stage ≡ Searching look → hits img site head task (look .slot) ≡ false
@@ -92,14 +119,14 @@ pub data Rule (head : ℕ) (img : List ℕ) (efifo : Bool) (fifothr : ℕ) (site
   toRead : (look : Search) (deleted broken other : Bool) → stage ≡ Searching look
       → hits img site head task (look .slot) ≡ true → task .transfer .pass ≡ Read
       → markOf (slotOf img site head (look .slot) .mark) ≡ Data deleted broken
-      → (deleted ≡ task .transfer .deleted → other ≡ false)
+      → other ≡ not (Bool·beq deleted (task .transfer .deleted)) → (other ≡ true → task .transfer .sk ≡ false)
       → o ≡ movesOf (Reading (record { slot = look .slot; broken = broken; other = other }) 0) site
       (withOther other task) fifo Nothing
       → Rule head img efifo fifothr site task fifo stage o
   skips : (look : Search) (deleted broken : Bool) → stage ≡ Searching look
       → hits img site head task (look .slot) ≡ true → task .transfer .pass ≡ Read
       → markOf (slotOf img site head (look .slot) .mark) ≡ Data deleted broken
-      → (deleted ≡ task .transfer .deleted → ⊥) → NextRule (look .slot) site (withOther true task) fifo Nothing o
+      → (deleted ≡ task .transfer .deleted → ⊥) → task .transfer .sk ≡ true → NextRule (fifo .tc) (look .slot) site (withOther true task) fifo Nothing o
       → Rule head img efifo fifothr site task fifo stage o
   turned-over : (slot : ℕ) → stage ≡ Turning slot → o ≡ movesOf (Searching (freshAt slot)) site task fifo Nothing
       → Rule head img efifo fifothr site task fifo stage o
@@ -118,40 +145,44 @@ pub data Rule (head : ℕ) (img : List ℕ) (efifo : Bool) (fifothr : ℕ) (site
       → o ≡ movesOf (Storing slot (done + 1)) site task fifo (Store (dataPlace site head slot done) 0x00)
       → Rule head img efifo fifothr site task fifo stage o
   finishes : (slot done : ℕ) → stage ≡ Storing slot done → passBytes site ≤ done
-      → NextRule slot site task fifo (Store (markPlace site head slot) (writtenMark false task)) o
+      → NextRule (fifo .tc && eqb (fifo .count) 0) slot site task fifo (Store (markPlace site head slot) (writtenMark false task)) o
       → Rule head img efifo fifothr site task fifo stage o
   -- the read
   moves : (sector : Sector) (done : ℕ) (fifo′ : Fifo) → stage ≡ Reading sector done → done + 1 < passBytes site
+      → Filled head img efifo fifothr site fifo sector done false fifo′
       → o ≡ movesOf (Reading sector (done + 1)) site task fifo′ Nothing
       → Rule head img efifo fifothr site task fifo stage o
   moves-last : (sector : Sector) (done : ℕ) (fifo′ : Fifo) → stage ≡ Reading sector done → passBytes site ≤ done + 1
+      → Filled head img efifo fifothr site fifo sector done true fifo′
       → o ≡ movesOf (Draining sector 0) site task fifo′ Nothing → Rule head img efifo fifothr site task fifo stage o
   drains : (sector : Sector) (looks : ℕ) → stage ≡ Draining sector looks → looks < 63
       → o ≡ movesOf (Draining sector (looks + 1)) site task fifo Nothing
       → Rule head img efifo fifothr site task fifo stage o
   data-error : (sector : Sector) (looks : ℕ) (verdict : Verdict) → stage ≡ Draining sector looks
-      → sector .broken ≡ true → verdict .st1 ≡ 0x20 → (task .other ≡ false → verdict .st2 ≡ 0x20)
-      → o ≡ endsWith verdict Nothing → Rule head img efifo fifothr site task fifo stage o
+      → sector .broken ≡ true → verdict .st2 ≡ otherBit (task .other) + 0x20
+      → Fails 0x20 site task verdict → o ≡ endsWith verdict Nothing → Rule head img efifo fifothr site task fifo stage o
   other-kind : (sector : Sector) (looks : ℕ) (verdict : Verdict) → stage ≡ Draining sector looks
-      → sector .broken ≡ false → o ≡ endsWith verdict Nothing → Rule head img efifo fifothr site task fifo stage o
+      → sector .broken ≡ false → verdict .st1 ≡ 0x00 → sector .other ≡ true → verdict .st2 ≡ otherBit (task .other) + 0x00
+      → o ≡ endsWith verdict Nothing → Rule head img efifo fifothr site task fifo stage o
   drained : (sector : Sector) (looks : ℕ) → stage ≡ Draining sector looks → sector .broken ≡ false
-      → NextRule (sector .slot) site task fifo Nothing o → Rule head img efifo fifothr site task fifo stage o
+      → sector .other ≡ false → fifo .count ≡ 0 → NextRule (fifo .tc) (sector .slot) site task fifo Nothing o → Rule head img efifo fifothr site task fifo stage o
 
 -- 01 Next
 module _ (slot : ℕ) (site : Site) (task : Task) (fifo : Fifo) (effect : Effect) where
-  pub follow-rule : (tc : Bool) → NextRule slot site task fifo effect (followOf slot tc site task fifo effect)
+  pub follow-rule : (tc : Bool) → NextRule tc slot site task fifo effect (followOf slot tc site task fifo effect)
   unfolding followOf followedOf nextOf moveEnd endOf
   follow-rule tc =
       let id = task .id in
       let eot = task .transfer .eot in
       let mt = task .transfer .mt in
-      let P : Next → Type 0 = λ n. NextRule slot site task fifo effect (followedOf n slot site task fifo effect) in
-      by-test tc P _ _ (λ t. stops _ refl)
+      let P : Next → Type 0 = λ n. NextRule tc slot site task fifo effect (followedOf n slot site task fifo effect) in
+      by-test tc P _ _
+      (λ t. stops _ (record { st0 = rw t; st1 = rw t; st2 = omega arith; id = refl; eot = λ f. absurd (true≢false (sym t ∙ f)) }) refl)
       (λ t. by-test (eqb (id .r) eot) P _ _
       (λ r. by-test (mt && eqb (site .side) 0) P _ _
-      (λ m. let b = both mt (eqb (site .side) 0) m in turns (eqb-true _ _ r) (b .0) (eqb-true _ _ (b .1)) refl)
-      (λ m. stops _ refl))
-      (λ r. steps (eqb-false _ _ r) refl))
+      (λ m. let b = both mt (eqb (site .side) 0) m in turns t (eqb-true _ _ r) (b .0) (eqb-true _ _ (b .1)) refl)
+      (λ m. stops _ (record { st0 = rw t; st1 = rw t; st2 = omega arith; id = refl; eot = λ f. eqb-true _ _ r }) refl))
+      (λ r. steps t (eqb-false _ _ r) refl))
 
 pos-ne : (n : ℕ) → (n ≡ 0 → ⊥) → 0 < n
 pos-ne zero h = absurd (h refl)
@@ -164,6 +195,17 @@ beq-same false b e = rw (← e) refl
 module _ (head : ℕ) (img : List ℕ) (efifo : Bool) (fifothr : ℕ) (site : Site) (task : Task) (fifo : Fifo) where
   abbrev R : Stage → Step → Type 0
   R stage o = Rule head img efifo fifothr site task fifo stage o
+
+  -- a failing end, as `moveFails` makes it
+  as-said : {st1 st2 : ℕ}
+      → Fails st1 site task
+      (record {
+        st0 = st0Of false (site .drive) (site .side);
+        st1 = st1;
+        st2 = st2;
+        id = task .id;
+      })
+  as-said = record { st0 = refl; st1-is = refl; id = refl }
 
   -- the slot's address is the one sought; and a hit, by the slot's mark
   abbrev same-at : Search → Bool
@@ -181,8 +223,8 @@ module _ (head : ℕ) (img : List ℕ) (efifo : Bool) (fifothr : ℕ) (site : Si
   unfolding finding.notFound moveFails moveEnd endOf
   fails-rule look look′ h l k =
       by-test (look′ .met) (R (Searching look)) _ _
-      (λ t. notFound look _ refl h l k refl)
-      (λ t. notFound look _ refl h l k refl)
+      (λ t. notFound look _ refl h l k 0x04 (inr refl) as-said refl)
+      (λ t. notFound look _ refl h l k 0x01 (inl refl) as-said refl)
 
   missed-rule : (look look′ : Search) → look′ .slot ≡ look .slot → look′ .passes ≡ look .passes
       → hits img site head task (look .slot) ≡ false → R (Searching look) (missedOf look′ site task fifo)
@@ -222,10 +264,10 @@ module _ (head : ℕ) (img : List ℕ) (efifo : Bool) (fifothr : ℕ) (site : Si
   unfolding readFound
   read-rule-at look deleted broken true o h w m =
       by-test (task .transfer .sk) (R (Searching look)) _ _
-      (λ t. skips look deleted broken refl h w m (λ e. true≢false (o ∙ beq-same _ _ e))
+      (λ t. skips look deleted broken refl h w m (λ e. true≢false (o ∙ beq-same _ _ e)) t
       (follow-rule (look .slot) site (withOther true task) fifo Nothing (fifo .tc)))
-      (λ t. toRead look deleted broken true refl h w m (λ e. o ∙ beq-same _ _ e) refl)
-  read-rule-at look deleted broken false o h w m = toRead look deleted broken false refl h w m (λ e. refl) refl
+      (λ t. toRead look deleted broken true refl h w m o (λ x. t) refl)
+  read-rule-at look deleted broken false o h w m = toRead look deleted broken false refl h w m o (λ x. absurd (true≢false (sym x))) refl
 
   data-rule : (look : Search) (deleted broken : Bool) (pass : Pass) → task .transfer .pass ≡ pass
       → hits img site head task (look .slot) ≡ true
@@ -239,7 +281,7 @@ module _ (head : ℕ) (img : List ℕ) (efifo : Bool) (fifothr : ℕ) (site : Si
       → hits img site head task (look .slot) ≡ true → markOf (slotOf img site head (look .slot) .mark) ≡ NoData
       → R (Searching look) (bareFound pass (look .slot) site task fifo)
   unfolding bareFound moveFails moveEnd endOf
-  bare-rule look Read w h m = noData look _ refl h w m refl
+  bare-rule look Read w h m = noData look _ refl h w m as-said refl
   bare-rule look Write w h m = toWrite look refl h w refl
 
   looked-rule : (look : Search) (mark : Mark) → markOf (slotOf img site head (look .slot) .mark) ≡ mark
@@ -257,40 +299,48 @@ module _ (head : ℕ) (img : List ℕ) (efifo : Bool) (fifothr : ℕ) (site : Si
 
   -- 01 Read
   on-rule : (sector : Sector) (done : ℕ) (f : Fifo)
+      → ((last : Bool) → lastByte site done ≡ last → Filled head img efifo fifothr site fifo sector done last f)
       → R (Reading sector done) (readOn sector done site task f)
   unfolding readOn
-  on-rule sector done f =
+  on-rule sector done f into =
       by-test (lastByte site done) (R (Reading sector done)) _ _
-      (λ t. moves-last sector done f refl (leb-true _ _ t) refl)
-      (λ t. moves sector done f refl (leb-false _ _ t) refl)
+      (λ t. moves-last sector done f refl (leb-true _ _ t) (into true t) refl)
+      (λ t. moves sector done f refl (leb-false _ _ t) (into false t) refl)
+
+  filled-told : (last : Bool) (byte : ℕ) → fifo .tc ≡ true → filledOf efifo fifothr last byte fifo ≡ fifo
+  unfolding filledOf
+  filled-told last byte t = rw t
 
   read-rule : (sector : Sector) (done : ℕ)
       → R (Reading sector done) (readOf sector done site task head img fifo efifo fifothr)
   unfolding readOf overrun moveFails moveEnd endOf
   read-rule sector done =
       by-test (fifo .tc) (R (Reading sector done)) _ _
-      (λ t. on-rule sector done fifo)
+      (λ t. on-rule sector done fifo (λ last l. record {
+        room = λ f. absurd (true≢false (sym t ∙ f));
+        after = sym (filled-told last _ t);
+      }))
       (λ t. by-test (fullOf efifo fifo) (R (Reading sector done)) _ _
-      (λ u. late _ refl refl)
-      (λ u. on-rule sector done _))
+      (λ u. late _ as-said (t, u) refl)
+      (λ u. on-rule sector done _ (λ last l. record { room = λ f. u; after = rw l })))
 
-  drained-rule : (sector : Sector) (looks : ℕ)
+  drained-rule : (sector : Sector) (looks : ℕ) → fifo .count ≡ 0
       → R (Draining sector looks) (drainedOf sector site task fifo)
   unfolding drainedOf moveFails moveEnd endOf
-  drained-rule sector looks =
+  drained-rule sector looks z =
       by-test (sector .broken) (R (Draining sector looks)) _ _
-      (λ t. data-error sector looks _ refl t refl (λ o. rw o refl) refl)
+      (λ t. data-error sector looks _ refl t refl as-said refl)
       (λ t. by-test (sector .other) (R (Draining sector looks)) _ _
-      (λ u. other-kind sector looks _ refl t refl)
-      (λ u. drained sector looks refl t (follow-rule (sector .slot) site task fifo Nothing (fifo .tc))))
+      (λ u. other-kind sector looks _ refl t refl u refl refl)
+      (λ u. drained sector looks refl t u z (follow-rule (sector .slot) site task fifo Nothing (fifo .tc))))
 
   drain-rule : (sector : Sector) (looks : ℕ) → R (Draining sector looks) (drainOf sector looks site task fifo)
   unfolding drainOf moveFails moveEnd endOf
   drain-rule sector looks =
       by-test (eqb (fifo .count) 0) (R (Draining sector looks)) _ _
-      (λ t. drained-rule sector looks)
+      (λ t. drained-rule sector looks (eqb-true (fifo .count) 0 t))
       (λ t. by-test (leb 63 looks) (R (Draining sector looks)) _ _
-      (λ u. late _ refl refl)
+      (λ u. late _ as-said (pos-of t, leb-true 63 looks u) refl)
       (λ u. drains sector looks refl (leb-false 63 looks u) refl))
 
   -- 01 Write
@@ -299,7 +349,7 @@ module _ (head : ℕ) (img : List ℕ) (efifo : Bool) (fifothr : ℕ) (site : Si
   await-rule slot wait =
       by-test (eqb (fifo .count) 0) (R (Awaiting slot wait)) _ _
       (λ t. by-test (leb 63 wait) (R (Awaiting slot wait)) _ _
-      (λ u. late _ refl refl)
+      (λ u. late _ as-said (eqb-true (fifo .count) 0 t, leb-true 63 wait u) refl)
       (λ u. waits slot wait refl (leb-false 63 wait u) refl))
       (λ t. begins slot wait refl (pos-of t) refl)
 
@@ -309,7 +359,7 @@ module _ (head : ℕ) (img : List ℕ) (efifo : Bool) (fifothr : ℕ) (site : Si
   dry-rule slot done l z =
       by-test (fifo .tc) (R (Storing slot done)) _ _
       (λ t. pads slot done refl l z t refl)
-      (λ t. late _ refl refl)
+      (λ t. late _ as-said (l, z, t) refl)
 
   store-rule : (slot done : ℕ)
       → R (Storing slot done) (storeOf slot done site task head fifo efifo fifothr)
@@ -326,7 +376,7 @@ module _ (head : ℕ) (img : List ℕ) (efifo : Bool) (fifothr : ℕ) (site : Si
   turn-rule slot =
       by-test (hasTrack (site .disk) head (site .side)) (R (Turning slot)) _ _
       (λ t. turned-over slot refl refl)
-      (λ t. noSide slot _ refl refl)
+      (λ t. noSide slot _ refl t as-said refl)
 
 -- a tick of a transfer whose disk is as it was goes by one of the rules
 pub transfer-rule : (head : ℕ) (img : List ℕ) (efifo : Bool) (fifothr : ℕ) (site : Site) (task : Task) (fifo : Fifo)

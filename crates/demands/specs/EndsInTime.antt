@@ -33,24 +33,24 @@ unfoldable pub boundOf : Geometry → ℕ
 boundOf g = 2 * (g .slots + 1) * (2 * g .slots + sizeOf (g .n) + 70)
 
 -- 01 End: any of these (Read, Write, Read ID, Format) is over within that many ticks if nobody else changes the image
-abbrev pub EndsInTime : Type 0
-EndsInTime =
-    (c : Controller) → Real c → (order : Order) → c .phase ≡ Starting order
+abbrev pub EndsInTime : (Controller → Type 0) → Type 0
+EndsInTime From =
+    (c : Controller) → From c → (order : Order) → c .phase ≡ Starting order
     → (img : List ℕ) (g : Geometry) → diskIn img ≡ Present g
     → (calls : List Call) → Alone (order .drive) img calls c → boundOf g ≤ tickCount calls
     → Ends Anyhow calls c
 
 -- 01 End: on an empty drive in one, whatever image a tick is handed: its result is there after the first tick
-abbrev pub EndsInOne : Type 0
-EndsInOne =
-    (c : Controller) → Real c → (order : Order) → c .phase ≡ Starting order
+abbrev pub EndsInOne : (Controller → Type 0) → Type 0
+EndsInOne From =
+    (c : Controller) → From c → (order : Order) → c .phase ≡ Starting order
     → (a b : List ℕ) → seenOf (c .registers .dor) (order .drive) (pickOf (order .drive) a b) ≡ Absent
     → after (ticks a b) c .phase ≡ Answering true
 
 -- 01 Commands Sense Drive: ST3 at the next tick
-abbrev pub SensesInOne : Type 0
-SensesInOne =
-    (c : Controller) → Real c → (unit : ℕ) → c .phase ≡ Sensing unit → (a b : List ℕ)
+abbrev pub SensesInOne : (Controller → Type 0) → Type 0
+SensesInOne From =
+    (c : Controller) → From c → (unit : ℕ) → c .phase ≡ Sensing unit → (a b : List ℕ)
     → after (ticks a b) c .phase ≡ Answering false
 
 -- a command of that kind is complete but for its last byte, which the host now writes to the FIFO

@@ -1,5 +1,9 @@
+pub mod Acknowledged
 pub mod DataError
 pub mod EndsInTime
+pub mod HandedOver
 pub mod History
+pub mod InTime
 pub mod PowerCut
+pub mod Quiet
 pub mod Work

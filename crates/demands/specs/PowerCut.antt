@@ -28,11 +28,10 @@ use Rattle.fdc.specs.Record.{driveAt}
 use Rattle.fdc.specs.Runs.{Call, runCalls}
 use Rattle.fdc.specs.Ticks.{imageAfter}
 use Rattle.demands.specs.History.{Sector, Begun, no-one, some-of, History, fresh, historyOf}
-use Rattle.demands.specs.Work.{Real, Its, Alone, imageLeft}
+use Rattle.demands.specs.Work.{Its, Alone, imageLeft}
 
 -- a Write Data or Write Deleted was accepted: any drive, side, MT, DMA or not, FIFO on or off
 pub record Writes (c : Controller) (order : Order) (transfer : Transfer) (id : Id) : Type 0 where
-  pub real : Real c
   pub accepted : c .phase ≡ Starting order
   pub moves : order .job ≡ Move transfer id
   pub writes : transfer .pass ≡ Write
@@ -53,13 +52,21 @@ abbrev pub aimNo : Transfer → Aim → ℕ → Aim
 aimNo transfer aim zero = aim
 aimNo transfer aim (suc n) = onward transfer (aimNo transfer aim n)
 
+-- 01 Next: a sector at EOT is followed by another only with MT on side 0
+abbrev pub Followed : Transfer → Aim → Type 0
+Followed transfer aim = aim .id .r ≡ transfer .eot → (transfer .mt ≡ true) × (aim .side ≡ 0)
+
+-- 01 Image: marks above 5 count as 0
+abbrev pub Counts : ℕ → Type 0
+Counts mark = (0 < mark) × (mark ≤ 5)
+
 -- where a sector of the command stands: in a slot of the track under the head, on the side in use, that matches
 -- (01 Search: the mark isn't 0, C H R N equal the command's and N is the header's)
 pub record Stands (g : Geometry) (img : List ℕ) (cylinder : ℕ) (aim : Aim) (at : ℕ) : Type 0 where
   pub slot : ℕ
   pub has : Has g cylinder (aim .side) slot
   pub place : at ≡ offsetOf g cylinder (aim .side) slot
-  pub marked : 0 < getD img at 0
+  pub marked : Counts (getD img at 0)
   pub address : idAt img at ≡ aim .id
   pub size : aim .id .n ≡ g .n
 
@@ -101,6 +108,11 @@ abbrev pub begunBytes : Begun → ℕ
 begunBytes no-one = 0
 begunBytes (some-of at bytes) = length bytes
 
+-- a sector begun counts as one
+abbrev pub begunOnes : Begun → ℕ
+begunOnes no-one = 0
+begunOnes (some-of at bytes) = 1
+
 abbrev pub SparesAll : List Sector → ℕ → Type 0
 SparesAll [] i = Unit {0}
 SparesAll (s ∷ before) i = Spares (s .at) (length (s .bytes)) i × SparesAll before i
@@ -116,29 +128,35 @@ pub record LeftBy (g : Geometry) (cylinder : ℕ) (transfer : Transfer) (aim : A
   pub begun : BegunHalf g cylinder transfer aim old img (h .host) (length (h .finished)) (h .begun)
   -- the zeros past the host's bytes came only after TC
   pub ran-out : length (h .host) < length (h .finished) * sizeOf (g .n) + begunBytes (h .begun) → h .told ≡ true
+  -- a sector, number k, is begun or finished only with a host byte of its own
+  pub fed : (k : ℕ) → k < length (h .finished) + begunOnes (h .begun) → k * sizeOf (g .n) < length (h .host)
+  -- and none past EOT
+  pub no-further : (k : ℕ) → k + 1 < length (h .finished) + begunOnes (h .begun)
+      → Followed transfer (aimNo transfer aim k)
   -- every other byte is as it was
   pub others : (i : ℕ) → SparesAll (h .finished) i → SparesBegun (h .begun) i → getD img i 0 ≡ getD old i 0
   -- so are the addresses of all slots, and the length
   pub ids : (c s k : ℕ) → Has g c s k → idAt img (offsetOf g c s k) ≡ idAt old (offsetOf g c s k)
   pub size : length img ≡ length old
-  -- a slot with a mark above 0 had one before
-  pub marked : (c s k : ℕ) → Has g c s k → 0 < markIn g img c s k → 0 < markIn g old c s k
+  -- a slot with an ID had one before
+  pub marked : (c s k : ℕ) → Has g c s k → Counts (markIn g img c s k) → Counts (markIn g old c s k)
 
 -- the track's cylinder is the head's
 abbrev pub headOf : Order → Controller → ℕ
 headOf order c = driveAt (order .drive) (c .drives) .head
 
--- Demand 3. It asks neither for a sound image nor for one without protection
-abbrev pub PowerCut : Type 0
-PowerCut =
-    (c : Controller) (order : Order) (transfer : Transfer) (id : Id) → Writes c order transfer id
+-- Demand 3, from every record of a kind: the reached ones (`Real`), or all that are as those (`Quiet`). It asks neither
+-- for a sound image nor for one without protection
+abbrev pub PowerCut : (Controller → Type 0) → Type 0
+PowerCut From =
+    (c : Controller) → From c → (order : Order) (transfer : Transfer) (id : Id) → Writes c order transfer id
     → (old : List ℕ) (g : Geometry) → diskIn old ≡ Present g
     → (calls : List Call) → Its calls c → Alone (order .drive) old calls c
     → LeftBy g (headOf order c) transfer (record { id = id; side = order .side }) old
     (imageLeft (order .drive) old calls c) (historyOf calls c fresh)
 
 -- the other image untouched, whatever it holds at each tick: of every drive but the command's, and for any command
-abbrev pub OtherImage : Type 0
-OtherImage =
-    (c : Controller) → Real c → (order : Order) → c .phase ≡ Starting order → (calls : List Call) → Its calls c
+abbrev pub OtherImage : (Controller → Type 0) → Type 0
+OtherImage From =
+    (c : Controller) → From c → (order : Order) → c .phase ≡ Starting order → (calls : List Call) → Its calls c
     → (k : ℕ) → (k ≡ order .drive → ⊥) → (a b img : List ℕ) → imageAfter k a b (runCalls calls c) img ≡ img

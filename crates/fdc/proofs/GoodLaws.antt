@@ -6,7 +6,7 @@ use mathlib.Core.Bool.{Bool, true, false, not, _&&_, false≢true}
 use mathlib.Core.List.{List, [], _∷_}
 use mathlib.Core.Path.{_≡_, refl, _∙_}
 use lib.Dec.{eqb, leb, ltb}
-use lib.ListN.{length, set, length-set}
+use lib.ListN.{set, length-set}
 use lib.Seq.{getD-set-same, getD-set-other}
 use borrow.Author.Tests.{ltb-true, leb-true}
 use Rattle.image.proofs.TestLaws.{by-test, both, le-or-lt}
@@ -32,7 +32,7 @@ use Rattle.sectors.specs.declared.work.Then.{Then}
 use Rattle.sectors.specs.declared.work.Then.the-variants.{Ends, Works}
 use Rattle.sectors.specs.declared.work.Work.{Work}
 use Rattle.engine.specs.Kept.{thenWait, thenFifo}
-use Rattle.engine.specs.Step.{waitOf, driveOf}
+use Rattle.engine.specs.Step.{driveOf}
 use Rattle.engine.proofs.KeptLaws.{begin-kept, go-on-kept}
 use Rattle.fdc.specs.declared.record.Controller.{Controller}
 use Rattle.fdc.specs.declared.record.Registers.{Registers}
@@ -46,17 +46,13 @@ use Rattle.fdc.specs.Answer.{answerOf}
 use Rattle.fdc.specs.Calls.{portOf, readReg, writeReg, powerOn, readPort, writePort, dmaRead, dmaWrite, noteChange}
 use Rattle.fdc.specs.Commands.{answeredOf, saidOf, saidTwo, idledOf, commandByte, specifyOf, configureOf, sensingOf, reporterOf, sensedOf, soughtOf, recalibratedOf, startedOf, ranOf, runOf, heedsOf, gatheredOf, goesOn, begunOf}
 use Rattle.fdc.specs.Data.{resultTaken, readIn, readFifo, offeredOf, writeFifo, dmaReadOf, dmaWriteOf, phaseToHost, phaseFromHost, phaseHears}
+use Rattle.fdc.specs.Good.{Four, Suits, Good}
 use Rattle.fdc.specs.Record.{freshOf, driveAt, withRegisters, withDrives, withFifo, withBytes, withPhase, withDrive, phaseWait, validOf}
 use Rattle.fdc.specs.Registers.{heldIn, msrOf, drqOf, anyBusy}
 use Rattle.fdc.specs.Reset.{resetAll, resetOf, reportAll, releasedBy, releasedOf, withDor, withTdr, withRate, wroteDor, wroteDsr}
 use Rattle.fdc.specs.Runs.{Call, powers, reads, writes, takes, gives, ticks, notes, answerTo, after, runCalls, Reached}
 use Rattle.fdc.specs.Ticks.{seenOf, tickAll, steppedOf, sensedAt, stillOf, settledOf, decidedOf, startOf, workOf, decideIn, decideOf, ruledOf, tickOf}
 use Rattle.fdc.proofs.ValidLaws.{valid-true}
-
--- four drives, each within its bounds
-pub record Four (drives : List Drive) : Type 0 where
-  pub long : length drives ≡ 4
-  pub each : (k : ℕ) → k < 4 → Within (driveAt k drives)
 
 pub four-of : (a b c d : Drive) → Within a → Within b → Within c → Within d → Four (a ∷ b ∷ c ∷ d ∷ [])
 four-of a b c d wa wb wc wd = record { long = refl; each = each }
@@ -80,22 +76,6 @@ four-set drives k d h f w = record { long = length-set drives k d ∙ f .long; e
 
     each : (j : ℕ) → j < 4 → Within (driveAt j (set drives k d))
     each j l = go j l (le-or-lt j k) (le-or-lt k j)
-
--- what a phase says of the command bytes and the FIFO
-abbrev pub Suits : Phase → ℕ → Fifo → Type 0
-Suits Idle n f = (n ≡ 0) × (f ≡ emptied)
-Suits (Gathering entry) n f = (n < entry .bytes) × (entry .bytes ≤ 9) × (f ≡ emptied)
-Suits (Starting order) n f = (n ≡ 0) × (f ≡ emptied)
-Suits (Working work) n f = (n ≡ 0) × (waitOf work ≤ 64)
-Suits (Sensing unit) n f = (n ≡ 0) × (f ≡ emptied)
-Suits (Answering loud) n f = (n ≡ 0) × (f ≡ emptied)
-
-pub record Good (c : Controller) : Type 0 where
-  pub drives : Four (c .drives)
-  pub fifo : Fits (c .registers .efifo) (c .fifo)
-  pub fifothr : c .registers .fifothr ≤ 15
-  pub left : c .bytes .left ≤ 7
-  pub phase : Suits (c .phase) (c .bytes .gathered) (c .fifo)
 
 -- of any phase, at most nine command bytes and a wait of at most 64
 gathered-le : (p : Phase) (n : ℕ) (f : Fifo) → Suits p n f → n ≤ 9

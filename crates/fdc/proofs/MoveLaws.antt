@@ -40,7 +40,8 @@ use Rattle.fdc.specs.Registers.{heldIn, msrOf, drqOf, anyBusy}
 use Rattle.fdc.specs.Reset.{withDor, withTdr, withRate, wroteDor, wroteDsr}
 use Rattle.fdc.specs.Runs.{Call, powers, reads, writes, takes, gives, ticks, notes, answerTo, after, runCalls}
 use Rattle.fdc.specs.Ticks.{seenOf, presentIn, tickAll, steppedOf, sensedAt, stillOf, settledOf, decidedOf, startOf, workOf, decideIn, decideOf, ruledOf, tickOf}
-use Rattle.fdc.proofs.GoodLaws.{Good, good-valid, good-after}
+use Rattle.fdc.specs.Good.{Good}
+use Rattle.fdc.proofs.GoodLaws.{good-valid, good-after}
 
 same-refl : (d : Drive) → Same d d
 same-refl d = record { head = refl; pcn = refl; busy = refl; report = refl; motion = refl }

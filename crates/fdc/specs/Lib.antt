@@ -3,6 +3,7 @@ pub mod Calls
 pub mod Commands
 pub mod Data
 pub mod Examples
+pub mod Good
 pub mod Moves
 pub mod Record
 pub mod Registers

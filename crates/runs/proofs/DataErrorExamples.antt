@@ -3,15 +3,16 @@
 use Prim.Native.Nat.{ℕ, zero, suc, _≤_, _<_}
 use native.Mathlib.Omega.{arith}
 use borrow.Author.Needs.{needs}
-use mathlib.Core.Bool.{Bool, true, false, _&&_}
+use mathlib.Core.Bool.{Bool, true, false, _&&_, not, cond, false≢true}
 use mathlib.Core.List.{List, [], _∷_}
+use mathlib.Core.Logic.{inl}
 use mathlib.Core.Path.{_≡_, refl, ap, _∙_}
 use lib.ListN.{take, drop}
 use Rattle.image.specs.declared.slot.Id.{Id}
 use Rattle.image.specs.Examples.{disk, sample}
 use Rattle.image.specs.Layout.{sizeOf, trackLength, lengthOf, trackAt, offsetOf, Has, sameOf}
 use Rattle.image.specs.Sound.{Track, markIn, NoTwins, Sound}
-use Rattle.image.proofs.TestLaws.{by-test}
+use Rattle.image.proofs.TestLaws.{by-test, both}
 use Rattle.sectors.specs.declared.work.Then.{Then}
 use Rattle.sectors.specs.declared.work.Then.the-variants.{Ends, Works}
 use Rattle.chip.specs.declared.fifo.Fifo.{Fifo}
@@ -42,7 +43,7 @@ use Rattle.fdc.specs.Moves.{tickCount}
 use Rattle.fdc.specs.Record.{freshOf, withRegisters, withDrives, withFifo, withBytes, withPhase, validOf}
 use Rattle.fdc.specs.Registers.{heldIn, motorIn, busyBits, anyBusy, pendingIn, msrOf, intOf, drqOf}
 use Rattle.fdc.specs.Reset.{reportAll, releasedBy, releasedOf, withDor, wroteDor}
-use Rattle.fdc.specs.Runs.{takes, ticks, answerTo, after, runCalls}
+use Rattle.fdc.specs.Runs.{Call, powers, reads, writes, takes, gives, ticks, notes, answerTo, after, runCalls}
 use Rattle.fdc.specs.Ticks.{
   steppedOf,
   sensedAt,
@@ -75,11 +76,13 @@ use Rattle.runs.specs.DataErrorExamples.{
 }
 use Rattle.demands.specs.EndsInTime.{boundOf}
 use Rattle.demands.specs.History.{some-of, History, fresh, historyOf}
+use Rattle.demands.specs.InTime.{AtTick, AtTicks, RequestOff, Prompt}
 use Rattle.demands.specs.PowerCut.{Writes, headOf}
-use Rattle.demands.specs.Work.{Its, Alone, imageLeft}
+use Rattle.demands.specs.Work.{atWork, Its, Alone, imageLeft}
 use Rattle.demands.specs.Work as command
 use Rattle.runs.proofs.CutExamples.{cut-examples}
-use Rattle.demands.proofs.DataErrorLaws.{data-error}
+use Rattle.demands.proofs.DataErrorLaws.{data-error, data-error-in-time}
+use Rattle.demands.proofs.InTimeLaws.{prompt-in-time}
 use Rattle.image.specs.Disk.{headerIn, geometryIn, diskIn}
 use Rattle.image.specs.Mark.{markOf}
 use Rattle.chip.specs.Fifo.{filledOf, takenOf, openedOf, givenOf, drawnOf}
@@ -235,6 +238,52 @@ unfolding headerIn geometryIn diskIn sizeOf trackLength lengthOf trackAt offsetO
     decidedOf fdc·startOf fdc·workOf decideIn decideOf ruledOf fdc·tickOf imageAfter imageLeft
 result = refl
 
+-- the request off at each tick, as a test
+abbrev offAt : Call → Controller → Bool
+offAt (powers head0 head1) c = true
+offAt (reads offset) c = true
+offAt (writes offset byte) c = true
+offAt (takes tc) c = true
+offAt (gives byte tc) c = true
+offAt (ticks a b) c = not (c .fifo .asks)
+offAt (notes drive) c = true
+
+unfoldable allOff : List Call → Controller → Bool
+allOff [] c = true
+allOff (call ∷ calls) c = cond (atWork (c .phase)) (offAt call c && allOff calls (after call c)) true
+
+not-off : (t : Bool) → not t ≡ true → t ≡ false
+not-off true e = absurd (false≢true e)
+not-off false e = refl
+
+off-at : (call : Call) (c : Controller) → offAt call c ≡ true → AtTick RequestOff call c
+off-at (powers head0 head1) c e = tt
+off-at (reads offset) c e = tt
+off-at (writes offset byte) c e = tt
+off-at (takes tc) c e = tt
+off-at (gives byte tc) c e = tt
+off-at (ticks a b) c e = not-off (c .fifo .asks) e
+off-at (notes drive) c e = tt
+
+off-prompt : (calls : List Call) (c : Controller) → allOff calls c ≡ true → Prompt calls c
+unfolding allOff AtTicks
+off-prompt [] c e = tt
+off-prompt (call ∷ calls) c e = λ w.
+    let (now, later) = both (offAt call c) (allOff calls (after call c)) (rw w at e) in
+    (off-at call c now, off-prompt calls (after call c) later)
+
+all-off : allOff readCalls reader ≡ true
+unfolding headerIn geometryIn diskIn sizeOf trackLength lengthOf trackAt offsetOf sameOf markOf kindOf entryOf
+    kindNumbered knownBelow filledOf takenOf openedOf givenOf drawnOf advancedOf nextOf tickIn tickOf gateOf movingOf
+    startOf enteredOf beginOf followedOf followOf readOn readOf drainedOf drainOf endOf moveEnd moveFails missedOf
+    readFound dataFound lookedOf searchOf stageOf workOf goOnOf hasTrack staysOf markPlace dataPlace awaitOf putOf
+    writtenOf storeOf answerOf portOf writeReg powerOn writePort dmaRead dmaWrite answeredOf idledOf specifyOf
+    moveOrder startedOf ranOf runOf gatheredOf goesOn begunOf offeredOf writeFifo dmaReadOf dmaWriteOf freshOf
+    withRegisters withDrives withFifo withBytes withPhase validOf motorIn busyBits anyBusy pendingIn msrOf intOf drqOf
+    reportAll releasedBy releasedOf withDor wroteDor answerTo runCalls seenOf tickAll steppedOf stillOf settledOf
+    decidedOf fdc·startOf fdc·workOf decideIn decideOf ruledOf fdc·tickOf imageAfter imageLeft allOff
+all-off = refl
+
 -- the conclusion
 ended : Writes (writer true) ordered written sectorOne → Its wrote (writer true)
     → Alone 0 (sample 2) wrote (writer true)
@@ -263,4 +312,23 @@ data-error-example =
       enough = enough;
       ends = ended (cut .accepted) (cut .its) (cut .alone) begun spins alone;
       result = result;
+      prompt = off-prompt readCalls reader all-off;
+      ends-exactly =
+          data-error-in-time (writer true) ordered written sectorOne (cut .accepted) (sample 2) (disk 1 1 2 1)
+          sample-sound wrote (cut .its) (cut .alone) 274 _ begun
+          reader readOrder read sectorTwo
+          (record {
+            real = reader-reads .real;
+            accepted = reader-reads .accepted;
+            moves = reader-reads .moves;
+            reads = reader-reads .reads;
+            slot = reader-reads .slot;
+            has = reader-reads .has;
+            there = reader-reads .there;
+            address = reader-reads .address;
+          })
+          (inl refl) readCalls spins alone enough
+          (prompt-in-time reader readOrder read sectorTwo
+          (record { real = reader-reads .real; accepted = reader-reads .accepted; moves = reader-reads .moves })
+          readCalls (off-prompt readCalls reader all-off));
     }

@@ -1,5 +1,7 @@
+pub mod AckExamples
 pub mod CutExamples
 pub mod DataErrorExamples
 pub mod EndsExamples
+pub mod HandedExamples
 pub mod RegisterRuns
 pub mod RowRuns

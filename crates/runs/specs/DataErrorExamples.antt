@@ -20,9 +20,10 @@ use Rattle.fdc.specs.Moves.{tickCount}
 use Rattle.fdc.specs.Runs.{Call, writes, takes, ticks, after, runCalls}
 use Rattle.fdc.specs.Ticks.{imageAfter}
 use Rattle.runs.specs.CutExamples.{writer, written, sectorOne, ordered, cutCalls, full}
-use Rattle.demands.specs.DataError.{ReadsIt, Spins, DataErrorOrLate}
+use Rattle.demands.specs.DataError.{ReadsIt, Spins, DataErrorOrLate, DataErrorAt}
 use Rattle.demands.specs.EndsInTime.{boundOf}
 use Rattle.demands.specs.History.{some-of, fresh, historyOf}
+use Rattle.demands.specs.InTime.{Prompt}
 use Rattle.demands.specs.PowerCut.{Writes}
 use Rattle.demands.specs.Work.{Its, Alone, imageLeft, Ends}
 
@@ -76,3 +77,6 @@ pub record DataErrorExample : Type 0 where
   -- and served so it is the data error: the tests, two looks, 256 bytes, and the look that finds the FIFO empty
   pub result :
       runCalls (taking 260 reader leftImage) reader .bytes .results ≡ 0x40 ∷ 0x20 ∷ 0x20 ∷ 0 ∷ 0 ∷ 2 ∷ 1 ∷ []
+  -- each tick of it finds the request off; so `DataErrorInTime` says that too, of every such host
+  pub prompt : Prompt readCalls reader
+  pub ends-exactly : Ends (DataErrorAt readOrder sectorTwo read written) readCalls reader

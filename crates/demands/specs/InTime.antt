@@ -1,0 +1,95 @@
+-- Served in time (01 Read, Write: ST1 10; 01 FIFO and request). A byte is late by document 01's own causes, and by no
+-- other; a host that serves each request before the next tick is never late.
+-- Assumes nothing.
+use Prim.Native.Nat.{_<_, _≤_}
+use mathlib.Core.Bool.{Bool, true, false}
+use mathlib.Core.List.{List, [], _∷_}
+use mathlib.Core.Path.{_≡_}
+use Rattle.chip.specs.declared.fifo.Fifo.{Fifo}
+use Rattle.chip.specs.Fifo.{fullOf}
+use Rattle.image.specs.declared.slot.Id.{Id}
+use Rattle.sectors.specs.declared.order.Job.the-variants.{Move}
+use Rattle.sectors.specs.declared.order.Order.{Order}
+use Rattle.sectors.specs.declared.order.Transfer.{Transfer}
+use Rattle.sectors.specs.declared.work.Site.{Site}
+use Rattle.sectors.specs.declared.work.Stage.{Stage}
+use Rattle.sectors.specs.declared.work.Stage.the-variants.{Searching, Turning, Reading, Draining, Awaiting, Storing}
+use Rattle.sectors.specs.declared.work.Work.{Work}
+use Rattle.sectors.specs.declared.work.Work.the-variants.{Identifying, Moving, Formatting}
+use Rattle.sectors.specs.Track.{passBytes}
+use Rattle.fdc.specs.declared.record.Controller.{Controller}
+use Rattle.fdc.specs.declared.record.Phase.{Phase}
+use Rattle.fdc.specs.declared.record.Phase.the-variants.{Idle, Gathering, Starting, Working, Sensing, Answering}
+use Rattle.fdc.specs.Runs.{Call, powers, reads, writes, takes, gives, ticks, notes, after, runCalls}
+use Rattle.demands.specs.Acknowledged.{resultByte}
+use Rattle.demands.specs.Work.{atWork, Its}
+
+-- 01 Read, Write: what ST1 10 is for, by the stage: a byte to move and the FIFO full, the 64th look that finds bytes,
+-- the 64th tick without one, a byte to store and none there
+abbrev pub Late : Bool → Site → Fifo → Stage → Type 0
+Late efifo site fifo (Searching look) = ⊥
+Late efifo site fifo (Turning slot) = ⊥
+Late efifo site fifo (Reading sector done) = (fifo .tc ≡ false) × (fullOf efifo fifo ≡ true)
+Late efifo site fifo (Draining sector looks) = (0 < fifo .count) × (63 ≤ looks)
+Late efifo site fifo (Awaiting slot wait) = (fifo .count ≡ 0) × (63 ≤ wait)
+Late efifo site fifo (Storing slot done) = (done < passBytes site) × (fifo .count ≡ 0) × (fifo .tc ≡ false)
+
+abbrev pub LateWork : Bool → Fifo → Work → Type 0
+LateWork efifo fifo (Identifying site slot passes) = ⊥
+LateWork efifo fifo (Moving site task stage) = Late efifo site fifo stage
+LateWork efifo fifo (Formatting site plan form) = ⊥
+
+abbrev pub LatePhase : Bool → Fifo → Phase → Type 0
+LatePhase efifo fifo Idle = ⊥
+LatePhase efifo fifo (Gathering entry) = ⊥
+LatePhase efifo fifo (Starting order) = ⊥
+LatePhase efifo fifo (Working work) = LateWork efifo fifo work
+LatePhase efifo fifo (Sensing unit) = ⊥
+LatePhase efifo fifo (Answering loud) = ⊥
+
+-- what is asked of a record that a tick is handed
+abbrev pub AtTick : (Controller → Type 0) → Call → Controller → Type 0
+AtTick P (powers head0 head1) c = Unit {0}
+AtTick P (reads offset) c = Unit {0}
+AtTick P (writes offset byte) c = Unit {0}
+AtTick P (takes tc) c = Unit {0}
+AtTick P (gives byte tc) c = Unit {0}
+AtTick P (ticks a b) c = P c
+AtTick P (notes drive) c = Unit {0}
+
+-- it holds at every tick of the command at work
+unfoldable pub AtTicks : (Controller → Type 0) → List Call → Controller → Type 0
+AtTicks P [] c = Unit {0}
+AtTicks P (call ∷ calls) c = atWork (c .phase) ≡ true → AtTick P call c × AtTicks P calls (after call c)
+
+abbrev pub Timely : Controller → Type 0
+Timely c = LatePhase (c .registers .efifo) (c .fifo) (c .phase) → ⊥
+
+-- no byte comes late
+abbrev pub InTime : List Call → Controller → Type 0
+InTime calls c = AtTicks Timely calls c
+
+-- each tick finds the request off
+abbrev pub RequestOff : Controller → Type 0
+RequestOff c = c .fifo .asks ≡ false
+
+abbrev pub Prompt : List Call → Controller → Type 0
+Prompt calls c = AtTicks RequestOff calls c
+
+-- a read or a write was accepted
+pub record Transfers (c : Controller) (order : Order) (transfer : Transfer) (id : Id) : Type 0 where
+  pub accepted : c .phase ≡ Starting order
+  pub moves : order .job ≡ Move transfer id
+
+-- a host that serves each request before the next tick is in time
+abbrev pub PromptInTime : (Controller → Type 0) → Type 0
+PromptInTime From =
+    (c : Controller) → From c → (order : Order) (transfer : Transfer) (id : Id) → Transfers c order transfer id
+    → (calls : List Call) → Prompt calls c → InTime calls c
+
+-- in time, no transfer ends with ST1 10, whoever changes the image
+abbrev pub NeverLate : (Controller → Type 0) → Type 0
+NeverLate From =
+    (c : Controller) → From c → (order : Order) (transfer : Transfer) (id : Id) → Transfers c order transfer id
+    → (calls : List Call) → Its calls c → InTime calls c → runCalls calls c .phase ≡ Answering true
+    → resultByte 1 (runCalls calls c) ≡ 0x10 → ⊥
