@@ -8,7 +8,7 @@ use mathlib.Core.Logic.{_↔_}
 use mathlib.Core.Path.{_≡_, refl, sym, _∙_, ap}
 use lib.Dec.{eqb}
 use lib.ListN.{length, getD, set}
-use lib.Seq.{getD-set-other}
+use lib.Seq.{getD-set-same, getD-set-other}
 use borrow.Author.Tests.{eq-eqb, eqb-true, lt-ltb, le-ltb}
 use Rattle.chip.specs.declared.codes.Entry.{Entry}
 use Rattle.chip.specs.declared.codes.Kind.{Kind}
@@ -16,6 +16,9 @@ use Rattle.chip.specs.declared.codes.Kind.the-variants.{Unknown, ReadData, Read
 use Rattle.chip.specs.declared.codes.Kind.the-variants.{Format, Recalibrate, SenseInterrupt, Specify, SenseDrive, Seek}
 use Rattle.chip.specs.declared.codes.Kind.the-variants.{Version, Configure}
 use Rattle.chip.specs.Commands.{kindOf, bytesOf, entryOf, mtOf, skOf}
+use Rattle.drive.specs.declared.Motion.{Motion}
+use Rattle.drive.specs.Drive.{accepted, distance, firstWait, recalibrateSteps, seekOf, recalibrateOf}
+use Rattle.drive.specs.declared.Motion.the-variants.{Seeking, Recalibrating}
 use Rattle.sectors.specs.declared.order.Order.{Order}
 use Rattle.sectors.specs.declared.order.Pass.{Pass}
 use Rattle.sectors.specs.declared.order.Pass.the-variants.{Read, Write}
@@ -28,13 +31,14 @@ use Rattle.fdc.specs.Answer.{answerOf}
 use Rattle.fdc.specs.Calls.{portOf, writeReg, writePort}
 use Rattle.fdc.specs.Commands.{answeredOf, saidOf, saidTwo, idledOf, specifyOf, configureOf, sensingOf, sensedOf}
 use Rattle.fdc.specs.Commands.{soughtOf, recalibratedOf, moveOrder, formatOrder, identifyOrder, startedOf, ranOf, heedsOf}
-use Rattle.fdc.specs.Commands.{commandByte, runOf, gatheredOf, goesOn, begunOf}
+use Rattle.fdc.specs.Commands.{commandByte, ticksOf, runOf, gatheredOf, goesOn, begunOf}
 use Rattle.fdc.specs.Data.{offeredOf, writeFifo}
 use Rattle.fdc.specs.Record.{driveAt, validOf, withRegisters, withBytes, withDrives, withDrive, withPhase}
 use Rattle.fdc.specs.Registers.{anyBusy, dmaIn, phaseStatus, msrOf}
 use Rattle.fdc.specs.Runs.{writes, answerTo, after, runCalls}
 use Rattle.fdc.proofs.ValidLaws.{valid-true, true-valid}
-use Rattle.answers.specs.Accepts.{Ready, afterBytes, Begun, readCode, writeCode, Accepts, Refuses, BusyRule}
+use Rattle.demands.proofs.QuietLaws.{quiet-real}
+use Rattle.answers.specs.Accepts.{Ready, afterBytes, Begun, Moves, readCode, writeCode, Accepts, Refuses, BusyRule}
 use Rattle.answers.specs.Accepts.{Specified, Configured, Settings, WaitsReady}
 use Rattle.answers.specs.CommandResults.{NoneBusy}
 use Rattle.answers.specs.ReadsOut.{SameElse}
@@ -246,19 +250,24 @@ refuses-by c l = record {
   else = record { registers = refl; drives = refl; fifo = refl };
 }
 
--- the byte after the code
+-- bytes that later ones leave alone
+set-later : (bs : List ℕ) (k n : ℕ) (l : List ℕ) → k < n → getD (setAll l n bs) k 0 ≡ getD l k 0
+set-later [] k n l h = refl
+set-later (y ∷ bs) k n l h =
+    set-later bs k (n + 1) (set l n y) (omega arith) ∙ getD-set-other l n k y 0 (λ e. omega arith)
+
+-- the two bytes after the code
 second-byte : (c : Controller) (r : Ready c) (code byte : ℕ) (rest : List ℕ)
     → getD (setAll (c .bytes .command) 0 (code ∷ byte ∷ rest)) 1 0 ≡ byte
 second-byte c r code byte rest =
     nine (c .bytes .command) (λ (l : List ℕ). getD (setAll l 0 (code ∷ byte ∷ rest)) 1 0 ≡ byte) (r .room)
-    (λ x0 x1 x2 x3 x4 x5 x6 x7 x8. later rest 2 _ (omega arith))
-  where
-    kept : (l : List ℕ) (n y : ℕ) → 2 ≤ n → getD (set l n y) 1 0 ≡ getD l 1 0
-    kept l n y h = getD-set-other l n 1 y 0 (λ e. omega arith)
+    (λ x0 x1 x2 x3 x4 x5 x6 x7 x8. set-later rest 1 2 _ (omega arith))
 
-    later : (bs : List ℕ) (n : ℕ) (l : List ℕ) → 2 ≤ n → getD (setAll l n bs) 1 0 ≡ getD l 1 0
-    later [] n l h = refl
-    later (y ∷ bs) n l h = later bs (n + 1) (set l n y) (omega arith) ∙ kept l n y h
+third-byte : (c : Controller) (r : Ready c) (code byte byte′ : ℕ) (rest : List ℕ)
+    → getD (setAll (c .bytes .command) 0 (code ∷ byte ∷ byte′ ∷ rest)) 2 0 ≡ byte′
+third-byte c r code byte byte′ rest =
+    nine (c .bytes .command) (λ (l : List ℕ). getD (setAll l 0 (code ∷ byte ∷ byte′ ∷ rest)) 2 0 ≡ byte′) (r .room)
+    (λ x0 x1 x2 x3 x4 x5 x6 x7 x8. set-later rest 2 3 _ (omega arith))
 
 bit-on : (part x byte : ℕ) → x ≡ byte → (eqb (x / part % 2) 1 ≡ true) ↔ (byte / part % 2 ≡ 1)
 bit-on part x byte e = (
@@ -274,6 +283,33 @@ recalibrates-not : (e : Controller) → driveAt (commandByte 1 e % 4) (e .drives
     → runOf Recalibrate e ≡ saidOf 0x80 e
 unfolding runOf ranOf recalibratedOf
 recalibrates-not e b = simp (and-false, b)
+
+seeks-free : (e : Controller) → driveAt (commandByte 1 e % 4) (e .drives) .busy ≡ false
+    → runOf Seek e
+    ≡ idledOf (withDrive (commandByte 1 e % 4)
+    (seekOf (commandByte 2 e) (ticksOf e) (driveAt (commandByte 1 e % 4) (e .drives))) e)
+unfolding runOf ranOf soughtOf
+seeks-free e b = simp (and-false, b)
+
+recalibrates-free : (e : Controller) → driveAt (commandByte 1 e % 4) (e .drives) .busy ≡ false
+    → runOf Recalibrate e
+    ≡ idledOf (withDrive (commandByte 1 e % 4)
+    (recalibrateOf (commandByte 1 e % 4) (ticksOf e) (driveAt (commandByte 1 e % 4) (e .drives))) e)
+unfolding runOf ranOf recalibratedOf
+recalibrates-free e b = simp (and-false, b)
+
+-- one drive of the four gets its order
+moves-by : (c : Controller) (r : Ready c) (l : List ℕ) (k : ℕ) → k < 4 → (motion : Motion)
+    → Moves c (idledOf (withDrive k (accepted motion (driveAt k (c .drives))) (heldOf c Idle l 0))) k motion
+unfolding idledOf withDrive withDrives
+moves-by c r l k h motion = record {
+  idle = refl;
+  bytes = refl;
+  drive = getD-set-same (c .drives) k _ _ (omega (arith, r .four));
+  others = λ j n. getD-set-other (c .drives) k j _ _ n;
+  registers = refl;
+  fifo = refl;
+}
 
 abbrev moveOf : ℕ → ℕ → ℕ → ℕ → ℕ → ℕ → Pass → Bool → Bool → Bool → Order
 moveOf unit cc hh rr nn eot pass deleted mt sk =
@@ -362,9 +398,7 @@ module _ (c : Controller) (r : Ready c) (n : NoneBusy c) where
           rate = refl;
         };
         spec1 = second-byte c r 0x03 first (second ∷ []);
-        spec2 =
-            nine (c .bytes .command) (λ (l : List ℕ). getD (setAll l 0 (0x03 ∷ first ∷ second ∷ [])) 2 0 ≡ second)
-            (r .room) (λ x0 x1 x2 x3 x4 x5 x6 x7 x8. refl);
+        spec2 = third-byte c r 0x03 first second [];
         eis = refl;
         efifo = refl;
         poll = refl;
@@ -413,6 +447,19 @@ accepts c = record {
   format = λ unit nn sc gpl d r n. formats c r n unit nn sc gpl d;
   read-id = λ unit r n. identifies c r n unit;
   sense-drive = λ unit r n. senses c r n unit;
+  seek = λ unit ncn r b.
+      let rest = unit ∷ ncn ∷ [] in
+      let e = whole c r (0x0F ∷ rest) in
+      let k : commandByte 1 e ≡ unit = second-byte c r 0x0F unit (ncn ∷ []) in
+      let t : commandByte 2 e ≡ ncn = third-byte c r 0x0F unit ncn [] in
+      let free : driveAt (commandByte 1 e % 4) (c .drives) .busy ≡ false = rw k b in
+      rw (completes c r 0x0F rest Seek refl refl ∙ seeks-free e free, k, t) (moves-by c r _ (unit % 4) (omega arith) _);
+  recalibrate = λ unit r b.
+      let e = whole c r (0x07 ∷ unit ∷ []) in
+      let k : commandByte 1 e ≡ unit = second-byte c r 0x07 unit [] in
+      let free : driveAt (commandByte 1 e % 4) (c .drives) .busy ≡ false = rw k b in
+      rw (completes c r 0x07 (unit ∷ []) Recalibrate refl refl ∙ recalibrates-free e free, k)
+      (moves-by c r _ (unit % 4) (omega arith) _);
 }
   where
     reads-by : (deleted mt sk : Bool) (unit cc hh rr nn eot gpl dtl : ℕ) → Ready c → NoneBusy c
@@ -506,4 +553,5 @@ waits-ready c w = record {
   idle = w .idle;
   none = none-gathered c w;
   room = fit-real c (w .real) .room;
+  four = quiet-real c (w .real) .good .drives .long;
 }

@@ -88,29 +88,29 @@ Leaves (Answering loud) n = LeavesBy loud n
 abbrev pub Unlocked : Work → Type 0
 Unlocked work = fromHost (flowOf work) ≡ true → siteOf work .disk .protect ≡ false
 
-pub record SoundWork (work : Work) : Type 0 where
+pub record FitWork (work : Work) : Type 0 where
   pub suits : suited work ≡ true
   pub slots : 0 < siteOf work .disk .slots
   pub proper : ProperWork work
   pub unlocked : Unlocked work
 
-abbrev pub Sound : Phase → Type 0
-Sound Idle = Unit {0}
-Sound (Gathering entry) = Unit {0}
-Sound (Starting order) = Unit {0}
-Sound (Working work) = SoundWork work
-Sound (Sensing unit) = Unit {0}
-Sound (Answering loud) = Unit {0}
+abbrev pub FitPhase : Phase → Type 0
+FitPhase Idle = Unit {0}
+FitPhase (Gathering entry) = Unit {0}
+FitPhase (Starting order) = Unit {0}
+FitPhase (Working work) = FitWork work
+FitPhase (Sensing unit) = Unit {0}
+FitPhase (Answering loud) = Unit {0}
 
-abbrev ThenSound : Then → Type 0
-ThenSound (Ends verdict) = Unit {0}
-ThenSound (Works work) = SoundWork work
+abbrev ThenFit : Then → Type 0
+ThenFit (Ends verdict) = Unit {0}
+ThenFit (Works work) = FitWork work
 
 abbrev ThenUnlocked : Then → Type 0
 ThenUnlocked (Ends verdict) = Unit {0}
 ThenUnlocked (Works work) = Unlocked work
 
-together : (t : Then) (g : Geometry) → 0 < g .slots → thenSuited t ≡ true → ProperThen g t → ThenUnlocked t → ThenSound t
+together : (t : Then) (g : Geometry) → 0 < g .slots → thenSuited t ≡ true → ProperThen g t → ThenUnlocked t → ThenFit t
 together (Ends verdict) g h s p u = tt
 together (Works work) g h s p u = record { suits = s; slots = rw (p .0) h; proper = p .1; unlocked = u }
 
@@ -141,7 +141,7 @@ begin-unlocked order g head fifo =
     (λ m. start-unlocked (order .job) _ fifo u)))
 
 first-sound : (order : Order) (disk : Disk) (head : ℕ) (fifo : Fifo) (efifo : Bool) → ProperJob (order .job)
-    → ((g : Geometry) → disk ≡ Present g → 0 < g .slots) → ThenSound (beginOf order disk head fifo .then)
+    → ((g : Geometry) → disk ≡ Present g → 0 < g .slots) → ThenFit (beginOf order disk head fifo .then)
 unfolding beginOf gateOf enteredOf endOf
 first-sound order Absent head fifo efifo p some = tt
 first-sound order (Present g) head fifo efifo p some =
@@ -157,7 +157,7 @@ kept-unlocked (Ends verdict) work u f p = tt
 kept-unlocked (Works next) work u f p = λ h. rw (p .0) (u (rw f at h))
 
 later-sound : (work : Work) (disk : Disk) (head : ℕ) (img : List ℕ) (fifo : Fifo) (efifo : Bool) (fifothr : ℕ)
-    → SoundWork work → ThenSound (goOnOf work disk head img fifo efifo fifothr .then)
+    → FitWork work → ThenFit (goOnOf work disk head img fifo efifo fifothr .then)
 later-sound work disk head img fifo efifo fifothr s =
     let k = go-on-kept work disk head img fifo efifo fifothr in
     let p = go-on-falls img head fifo efifo fifothr work disk (s .slots) (s .proper) .proper in
@@ -179,7 +179,7 @@ seen-slots dor drive img g = go (motorIn dor drive)
 
 pub record Fit (c : Controller) : Type 0 where
   pub room : length (c .bytes .command) ≡ 9
-  pub phase : Sound (c .phase)
+  pub phase : FitPhase (c .phase)
   pub left : Leaves (c .phase) (c .bytes .left)
 
 fit-registers : (r : Registers) (c : Controller) → Fit c → Fit (withRegisters r c)
@@ -320,7 +320,7 @@ fit-write-reg Data byte c f =
 fit-write-reg Input byte c f = fit-rate byte c f
 
 -- the tick
-fit-settled : (then : Then) (fifo : Fifo) (c : Controller) → Fit c → ThenSound then → Fit (settledOf then fifo c)
+fit-settled : (then : Then) (fifo : Fifo) (c : Controller) → Fit c → ThenFit then → Fit (settledOf then fifo c)
 unfolding settledOf withFifo withPhase answeredOf
 fit-settled (Ends verdict) fifo c f s = record { room = refl; phase = tt; left = refl }
 fit-settled (Works work) fifo c f s = record { room = f .room; phase = s; left = tt }
@@ -328,7 +328,7 @@ fit-settled (Works work) fifo c f s = record { room = f .room; phase = s; left =
 abbrev FitThen : Decision → Type 0
 FitThen decision = Fit (decision .controller)
 
-fit-decide-in : (p : Phase) (a b : List ℕ) (c : Controller) → Sound p → Proper p → Fit c → FitThen (decideIn p a b c)
+fit-decide-in : (p : Phase) (a b : List ℕ) (c : Controller) → FitPhase p → Proper p → Fit c → FitThen (decideIn p a b c)
 unfolding decideIn stillOf startOf workOf decidedOf sensedAt
 fit-decide-in Idle a b c s q f = f
 fit-decide-in (Gathering entry) a b c s q f = f
@@ -405,7 +405,7 @@ real-power : (head0 head1 : ℕ) → Real (powerOn head0 head1 .controller)
 unfolding runCalls
 real-power head0 head1 = record { head0 = head0; head1 = head1; calls = []; bytes = tt; run = refl }
 
-suited-in : (p : Phase) → Sound p → suitedIn p ≡ true
+suited-in : (p : Phase) → FitPhase p → suitedIn p ≡ true
 suited-in Idle s = refl
 suited-in (Gathering entry) s = refl
 suited-in (Starting order) s = refl

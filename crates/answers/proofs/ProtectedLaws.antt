@@ -33,7 +33,7 @@ use Rattle.answers.specs.OnlyWrites.{Storing, Locked, AllHanded, Protect
 use Rattle.demands.specs.Work.{Real, AllOfBytes, Handed, imageBy, imageLeft}
 use Rattle.demands.proofs.CallLaws.{tick-works}
 use Rattle.demands.proofs.QuietLaws.{quiet-real}
-use Rattle.answers.proofs.FitLaws.{SoundWork, fit-real, real-after}
+use Rattle.answers.proofs.FitLaws.{FitWork, fit-real, real-after}
 use Rattle.answers.proofs.OnlyWritesLaws.{only-writes}
 
 lost-nothing : (work : Work) (head : ℕ) → lostOf work head .effect ≡ Nothing
@@ -52,7 +52,7 @@ seen-other dor drive img met l p =
     (λ t. refl)
 
 locked-nothing : (work : Work) (dor head : ℕ) (img : List ℕ) (fifo : Fifo) (efifo : Bool) (fifothr : ℕ) → Locked img
-    → SoundWork work → goOnOf work (seenOf dor (driveOf work) img) head img fifo efifo fifothr .effect ≡ Nothing
+    → FitWork work → goOnOf work (seenOf dor (driveOf work) img) head img fifo efifo fifothr .effect ≡ Nothing
 unfolding goOnOf
 locked-nothing work dor head img fifo efifo fifothr l s = go (fromHost (flowOf work)) refl
   where
@@ -65,7 +65,7 @@ locked-nothing work dor head img fifo efifo fifothr l s = go (fromHost (flowOf w
 
 -- a tick
 module _ (c : Controller) (r : Real c) (k : ℕ) (a b : List ℕ) (l : Locked (pickOf k a b)) where
-  works-locked : (work : Work) → c .phase ≡ Working work → SoundWork work
+  works-locked : (work : Work) → c .phase ≡ Working work → FitWork work
       → imageAfter k a b c (pickOf k a b) ≡ pickOf k a b
   unfolding imageAfter decidedOf
   works-locked work e s =

@@ -9,24 +9,29 @@ use mathlib.Core.Logic.{_↔_}
 use mathlib.Core.Path.{_≡_}
 use lib.ListN.{length}
 use Rattle.chip.specs.Commands.{kindOf, bytesOf}
+use Rattle.drive.specs.declared.Motion.{Motion}
+use Rattle.drive.specs.declared.Motion.the-variants.{Seeking, Recalibrating}
+use Rattle.drive.specs.Drive.{distance, firstWait, recalibrateSteps}
 use Rattle.sectors.specs.declared.order.Order.{Order}
 use Rattle.sectors.specs.declared.order.Pass.the-variants.{Read, Write}
 use Rattle.sectors.specs.declared.order.Job.the-variants.{Identify, Move, Format}
 use Rattle.fdc.specs.declared.record.Controller.{Controller}
 use Rattle.fdc.specs.declared.record.Phase.the-variants.{Idle, Starting, Sensing}
+use Rattle.fdc.specs.Commands.{ticksOf}
 use Rattle.fdc.specs.Record.{noBytes, driveAt}
 use Rattle.fdc.specs.Runs.{Call, writes, runCalls}
 use Rattle.answers.specs.CommandResults.{Said, Waits, NoneBusy}
 use Rattle.answers.specs.ReadsOut.{SameElse}
 use Rattle.answers.specs.Registers.{Undamaged, Free}
 
--- it waits for a command; there is room for nine bytes, as the array's type has it
+-- it waits for a command; there is room for nine bytes, and there are four drives, as the arrays' types have it
 pub record Ready (c : Controller) : Type 0 where
   pub undamaged : Undamaged c
   pub free : Free c
   pub idle : c .phase ≡ Idle
   pub none : c .bytes .gathered ≡ 0
   pub room : length (c .bytes .command) ≡ 9
+  pub four : length (c .drives) ≡ 4
 
 -- every reached record that waits for a command is such a one
 abbrev pub WaitsReady : Type 0
@@ -53,6 +58,22 @@ readCode deleted mt sk = cond deleted 0x4C 0x46 + cond mt 0x80 0 + cond sk 0x20 
 -- 01 Commands: Write Data 45, Write Deleted 49; 80 MT
 abbrev pub writeCode : Bool → Bool → ℕ
 writeCode deleted mt = cond deleted 0x49 0x45 + cond mt 0x80 0
+
+-- drive k has its order: it is busy, without a report, and nothing else is changed
+pub record Moves (c e : Controller) (k : ℕ) (motion : Motion) : Type 0 where
+  pub idle : e .phase ≡ Idle
+  pub bytes : e .bytes ≡ noBytes
+  pub drive : driveAt k (e .drives) ≡ record {
+    head = driveAt k (c .drives) .head;
+    pcn = driveAt k (c .drives) .pcn;
+    changed = driveAt k (c .drives) .changed;
+    busy = true;
+    report = 0;
+    motion = motion;
+  }
+  pub others : (j : ℕ) → (j ≡ k → ⊥) → driveAt j (e .drives) ≡ driveAt j (c .drives)
+  pub registers : e .registers ≡ c .registers
+  pub fifo : e .fifo ≡ c .fifo
 
 pub record Accepts (c : Controller) : Type 0 where
   -- nine bytes: code, side and drive (bit 2, bits 1-0), C H R N, EOT, GPL, DTL
@@ -88,6 +109,16 @@ pub record Accepts (c : Controller) : Type 0 where
   -- Sense Drive 04: two; side and drive are kept for the next tick
   pub sense-drive : (unit : ℕ) → Ready c → NoneBusy c
       → (afterBytes (0x04 ∷ unit ∷ []) c .phase ≡ Sensing (unit % 8)) × SameElse c (afterBytes (0x04 ∷ unit ∷ []) c)
+  -- Seek 0F: three; of a drive that is not busy, whichever other drive is: |NCN - PCN| steps, the first after T ticks
+  pub seek : (unit ncn : ℕ) → Ready c → driveAt (unit % 4) (c .drives) .busy ≡ false
+      → Moves c (afterBytes (0x0F ∷ unit ∷ ncn ∷ []) c) (unit % 4)
+      (Seeking ncn (distance (driveAt (unit % 4) (c .drives) .pcn) ncn)
+      (firstWait (distance (driveAt (unit % 4) (c .drives) .pcn) ncn) (ticksOf c)))
+  -- Recalibrate 07: two; out until the head is at 0, at most 79 steps
+  pub recalibrate : (unit : ℕ) → Ready c → driveAt (unit % 4) (c .drives) .busy ≡ false
+      → Moves c (afterBytes (0x07 ∷ unit ∷ []) c) (unit % 4)
+      (Recalibrating (recalibrateSteps (unit % 4) (driveAt (unit % 4) (c .drives) .head))
+      (firstWait (recalibrateSteps (unit % 4) (driveAt (unit % 4) (c .drives) .head)) (ticksOf c)))
 
 -- it answers 80 alone, and nothing else is changed
 pub record Refuses (c e : Controller) : Type 0 where

@@ -149,11 +149,13 @@ use Rattle.fdc.specs.Ticks.{
   tickOf,
 }
 use Rattle.fdc.specs.Good.{Good}
-use Rattle.fdc.proofs.GoodLaws.{good-power-on, good-after}
+use Rattle.chip.proofs.FifoLaws.{fits-emptied}
+use Rattle.fdc.proofs.GoodLaws.{four-of, good-power-on, good-after}
+use Rattle.fdc.proofs.ValidLaws.{Valid, true-valid}
 use Rattle.fdc.proofs.MoveLaws.{reporter-reports}
 use Rattle.fdc.proofs.StandLaws.{tick-stands, stepped-stands}
 use Rattle.demands.specs.Work.{OfBytes, AllOfBytes, Real, atWork}
-use Rattle.demands.specs.Quiet.{Proper, AllBytes, Each, StandsStill, Settled, Inner, Quiet}
+use Rattle.demands.specs.Quiet.{ResetQuiet, Proper, AllBytes, Each, StandsStill, Settled, Inner, Quiet}
 
 -- lists of bytes
 bytes-zeros : (n : ℕ) → AllBytes (replicate n 0)
@@ -499,13 +501,13 @@ tame-rate : (byte : ℕ) (c : Controller) → Tame c → Tame (withRate byte c)
 unfolding withRate
 tame-rate byte c t = tame-registers _ c refl refl t
 
-rests-reset : (c : Controller) → Tame c → Rests (resetOf c)
+rests-reset : (c : Controller) → c .registers .spec1 < 256 → Rests (resetOf c)
 unfolding resetOf resetAll
-rests-reset c t = record {
+rests-reset c h = record {
   idle = refl;
   stand = each-of StandsStill _ _ _ _ refl refl refl refl;
   command = bytes-zeros 9;
-  spec1 = t .inner .spec1;
+  spec1 = h;
 }
 
 rests-dor : (byte : ℕ) (c : Controller) → Rests c → Rests (withDor byte c)
@@ -550,7 +552,7 @@ tame-dor byte c f t = record {
 tame-wrote-dor : (byte : ℕ) (c : Controller) → Tame c → Tame (wroteDor byte c)
 unfolding wroteDor
 tame-wrote-dor byte c t =
-    by-test (heldIn byte) Tame _ _ (λ _. tame-rests _ (rests-dor byte _ (rests-reset c t)))
+    by-test (heldIn byte) Tame _ _ (λ _. tame-rests _ (rests-dor byte _ (rests-reset c (t .inner .spec1))))
     (λ f. by-test (heldIn (c .registers .dor)) Tame _ _
     (λ h. tame-rests _ (rests-dor byte _ (rests-released c (rests-held c h t))))
     (λ _. tame-dor byte c f t))
@@ -559,7 +561,7 @@ tame-wrote-dsr : (byte : ℕ) (c : Controller) → Tame c → Tame (wroteDsr byt
 unfolding wroteDsr
 tame-wrote-dsr byte c t =
     by-test (eqb (byte / 128) 1 && not (heldIn (c .registers .dor))) Tame _ _
-    (λ _. tame-rate byte _ (tame-rests _ (rests-released _ (rests-reset c t))))
+    (λ _. tame-rate byte _ (tame-rests _ (rests-released _ (rests-reset c (t .inner .spec1)))))
     (λ _. tame-rate byte c t)
 
 tame-fifo : (fifo : Fifo) (c : Controller) → Tame c → Tame (withFifo fifo c)
@@ -825,3 +827,22 @@ quiet-free c q w = go (heldIn (c .registers .dor)) refl
     go : (b : Bool) → heldIn (c .registers .dor) ≡ b → heldIn (c .registers .dor) ≡ false
     go true h = absurd (false≢true (sym (ap atWork (q .held h)) ∙ w))
     go false h = h
+
+-- 01 Registers reset: of any valid record, reached or not
+good-reset : (byte : ℕ) (c : Controller) → Valid c → Good (withDor byte (resetOf c))
+unfolding resetOf resetAll withDor withRegisters
+good-reset byte c v = record {
+  drives =
+      four-of _ _ _ _ (record { head = v .head0; count = omega arith }) (record { head = v .head1; count = omega arith })
+      (record { head = v .head2; count = omega arith }) (record { head = v .head3; count = omega arith });
+  fifo = fits-emptied true;
+  fifothr = omega arith;
+  left = omega arith;
+  phase = (refl, refl);
+}
+
+pub reset-quiet : ResetQuiet
+unfolding answerTo writePort portOf writeReg wroteDor answerOf
+reset-quiet c v h byte held =
+    rw (v, after) (rw held
+    (quiet-of _ (good-reset byte c (true-valid c v)) (tame-rests _ (rests-dor byte _ (rests-reset c h)))))

@@ -15,8 +15,9 @@ use Rattle.fdc.specs.declared.record.Controller.{Controller}
 use Rattle.fdc.specs.declared.record.Phase.{Phase}
 use Rattle.fdc.specs.declared.record.Phase.the-variants.{Idle, Gathering, Starting, Working, Sensing, Answering}
 use Rattle.fdc.specs.Good.{Good}
-use Rattle.fdc.specs.Record.{driveAt}
+use Rattle.fdc.specs.Record.{driveAt, validOf}
 use Rattle.fdc.specs.Registers.{heldIn}
+use Rattle.fdc.specs.Runs.{writes, after}
 use Rattle.demands.specs.Work.{atWork}
 
 -- what an accepted command was told: its drive, its side, and two numbers that are bytes
@@ -62,3 +63,9 @@ pub record Quiet (c : Controller) : Type 0 where
   pub still : atWork (c .phase) ≡ true → Each StandsStill (c .drives)
   pub proper : Proper (c .phase)
   pub inner : Inner c
+
+-- a reset by DOR of any valid record gives such a one, whatever was going on; that Specify's byte is one is its type's
+abbrev pub ResetQuiet : Type 0
+ResetQuiet =
+    (c : Controller) → validOf c ≡ true → c .registers .spec1 < 256 → (byte : ℕ) → heldIn byte ≡ true
+    → Quiet (after (writes 2 byte) c)
