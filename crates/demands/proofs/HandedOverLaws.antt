@@ -64,9 +64,9 @@ use Rattle.fdc.specs.Record.{driveAt, withFifo, withPhase}
 use Rattle.fdc.specs.Registers.{motorIn}
 use Rattle.fdc.specs.Runs.{Call, powers, reads, writes, takes, gives, ticks, notes, answerTo, after, runCalls}
 use Rattle.fdc.specs.Ticks.{seenOf, settledOf, decidedOf, ruledOf, tickOf, imageAfter}
-use Rattle.demands.specs.Acknowledged.{passing, resultByte, resultId}
+use Rattle.demands.specs.Acknowledged.{resultByte, resultId}
 use Rattle.demands.specs.HandedOver.{Taken, untaken, takenBy, takenOver, tookOne, IsGood, IsOther, Passed, was-read, was-skipped, Ways, Tells, Hands, HandedOver, HandedPlain}
-use Rattle.demands.specs.PowerCut.{Aim, aimNo, Counts, Stands, headOf}
+use Rattle.demands.specs.PowerCut.{Followed, InReach, Aim, aimNo, Counts, Stands, headOf, passing}
 use Rattle.demands.specs.Work.{atWork, Its, imageBy, imageLeft, Handed, Alone, Real}
 use Rattle.demands.proofs.AddressLaws.{onward-turn, onward-stay}
 use Rattle.demands.proofs.CallLaws.{tick-starts, tick-works, call-rule, calm-keeps, taken-rule}
@@ -124,6 +124,15 @@ failed-above drive side l = omega arith
 
 idle≢answering : (loud : Bool) → Idle ≡ Answering loud → ⊥
 idle≢answering loud e = let z : _≡_ {A = ℕ} 0 1 = cc in omega arith
+
+-- one aim further
+reach-next : (transfer : Transfer) (aim : Aim) (m : ℕ) → InReach transfer aim m → Followed transfer (aimNo transfer aim m)
+    → InReach transfer aim (suc m)
+reach-next transfer aim m before now i l = go (le-or-lt m i)
+  where
+    go : (m ≤ i) ⊎ (i < m) → Followed transfer (aimNo transfer aim i)
+    go (inl x) = let e : i ≡ m = omega arith in rw e now
+    go (inr x) = before i x
 
 module _ (g : Geometry) (cylinder drive : ℕ) (transfer : Transfer) (aim : Aim) (img : List ℕ) where
   abbrev P : ℕ
@@ -287,6 +296,8 @@ module _ (g : Geometry) (cylinder drive : ℕ) (transfer : Transfer) (aim : Aim)
     pub side : site .side ≡ aimNo transfer aim m .side
     pub id : task .id ≡ aimNo transfer aim m .id
     pub link : Link (aimNo transfer aim m) (task .other) stage
+    -- no aim before the one in hand was the last
+    pub reach : InReach transfer aim m
     pub asks : AsksSome f
     pub flow : Flowing num n (doneIn stage) f t
 
@@ -379,6 +390,7 @@ module _ (g : Geometry) (cylinder drive : ℕ) (transfer : Transfer) (aim : Aim)
           side = b .side;
           id = i ∙ b .id;
           link = l;
+          reach = b .reach;
           asks = a;
           flow = s;
         }
@@ -454,13 +466,13 @@ module _ (g : Geometry) (cylinder drive : ℕ) (transfer : Transfer) (aim : Aim)
     on-turn : (slot : ℕ) (num : ℕ → ℕ) (n : ℕ) (other : Bool) → (other ≡ false → (j : ℕ) → num j ≡ j)
         → Has g cylinder (now .side) slot
         → Trail num n (suc (b .m)) → Flowing num n 0 f t
-        → task .id .r ≡ task .transfer .eot
+        → task .id .r ≡ task .transfer .eot → task .transfer .mt ≡ true → site .side ≡ 0
         → Busy (onSide 1 site) (record {
           transfer = task .transfer;
           id = advancedOf (task .id) (task .transfer .eot) (task .transfer .mt) (site .side);
           other = other;
         }) (Turning (nextSlot slot (site .disk .slots))) f t
-    on-turn slot num n other clear has trail fl r =
+    on-turn slot num n other clear has trail fl r mt first =
         let r′ : now .id .r ≡ transfer .eot = rw (b .id, b .told-to) at r in
         record {
           num = num;
@@ -474,6 +486,7 @@ module _ (g : Geometry) (cylinder drive : ℕ) (transfer : Transfer) (aim : Aim)
           side = sym (onward-turn transfer now r′);
           id = rw (b .id, b .told-to, b .side);
           link = (has .on-disk, rw (b .disk) (next-slot-below slot (g .slots) (fits .range .slots .0)));
+          reach = reach-next transfer aim (b .m) (b .reach) (λ e. (rw (b .told-to) at mt, sym (b .side) ∙ first));
           asks = b .asks;
           flow = fl;
         }
@@ -506,6 +519,7 @@ module _ (g : Geometry) (cylinder drive : ℕ) (transfer : Transfer) (aim : Aim)
             on-cylinder = omega (arith, has .on-cylinder);
             on-track = rw (b .disk) (next-slot-below slot (g .slots) (fits .range .slots .0));
           };
+          reach = reach-next transfer aim (b .m) (b .reach) (λ e. absurd (r′ e));
           asks = b .asks;
           flow = fl;
         }
@@ -520,7 +534,7 @@ module _ (g : Geometry) (cylinder drive : ℕ) (transfer : Transfer) (aim : Aim)
           refl,
           on-turn (sector .slot) (b .num) (suc (b .n)) (task .other) (b .clear) (s .has)
               (trail-next (b .num) (b .n) (b .m) (b .trail) (good-now sector s whole own))
-              (flow-next g cylinder transfer aim img (b .num) fl refl z u) r,
+              (flow-next g cylinder transfer aim img (b .num) fl refl z u) r x d,
         )
     next-step sector o s whole own z fl (steps u r e) =
         rw e (
@@ -581,7 +595,7 @@ module _ (g : Geometry) (cylinder drive : ℕ) (transfer : Transfer) (aim : Aim)
           on-turn slot (bumped (b .n) (b .num)) (b .n) (task .other || true) (λ y. absurd (true≢false (sym (or-true (task .other)) ∙ y))) has
               (trail-skip (b .num) (b .n) (b .m) (b .trail) k other)
               (flow-skip g cylinder transfer aim img (b .num) (bumped (b .n) (b .num)) efifo (b .n) f t fit
-              (bump-before (b .n) (b .num)) u fl) r,
+              (bump-before (b .n) (b .num)) u fl) r x d,
         )
     skip-step slot o k other has fit fl (steps u r e) =
         rw e (
@@ -609,6 +623,7 @@ module _ (g : Geometry) (cylinder drive : ℕ) (transfer : Transfer) (aim : Aim)
         rw (x .after) (
           some-filled efifo fifothr last _ f (b .asks),
           flow-fill g cylinder transfer aim img (b .num) efifo (b .n) done f t fit fifothr last _ _ fl l st
+              (subst (InReach transfer aim) (sym (trail-now (b .num) (b .n) (b .m) (b .trail))) (b .reach))
               (λ k. record {
                 broken = sector .broken;
                 is = s .mark ∙ ap (λ (y : Bool). Data y (sector .broken)) (own-kind _ _ (sym (s .kind-is) ∙ s .own k));
@@ -802,6 +817,7 @@ module _ (g : Geometry) (cylinder : ℕ) (order : Order) (transfer : Transfer) (
             on-cylinder = ltb-true _ _ on-cylinder;
             on-track = omega (arith, fits .range .slots .0);
           };
+          reach = λ i l. absurd (omega arith);
           asks = some-emptied;
           flow = flow-fresh g cylinder transfer aim img (λ j. j);
         },
@@ -937,6 +953,7 @@ module _ (g : Geometry) (cylinder : ℕ) (order : Order) (transfer : Transfer) (
         side = b .side;
         id = b .id;
         link = b .link;
+        reach = b .reach;
         asks = some-taken tc f;
         flow = flow-take g cylinder transfer aim img (b .num) efifo (b .n) _ f t fit tc (b .flow)
             (done-most g cylinder drive transfer aim img _ _ stage (b .link)) a (b .asks);
@@ -1037,6 +1054,7 @@ handed-plain-quiet c quiet order transfer id r sk img g disk calls its alone k l
       stands = subst (λ (m : ℕ).
           Stands g img (headOf order c) (aimNo transfer (record { id = id; side = order .side }) m) (b .at))
           (h .ways .plain sk (k / passing g)) (b .stands);
+      reach = subst (InReach transfer (record { id = id; side = order .side })) (h .ways .plain sk (k / passing g)) (b .reach);
       is = b .is;
     }
 

@@ -21,7 +21,7 @@ use Rattle.chip.specs.Fifo.{capacityOf, fullOf, held, frontOf, emptied, takenOf
 use Rattle.chip.proofs.FifoLaws.{taken-held, filled-held, filled-tc-same}
 use Rattle.sectors.specs.declared.order.Transfer.{Transfer}
 use Rattle.demands.specs.HandedOver.{Taken, untaken, tookOne, OfKind, Comes, AllCome}
-use Rattle.demands.specs.PowerCut.{Aim, aimNo, Stands}
+use Rattle.demands.specs.PowerCut.{InReach, Aim, aimNo, Stands}
 
 -- 01 FIFO, to host: a request is on only with a byte held
 abbrev pub AsksSome : Fifo → Type 0
@@ -107,9 +107,9 @@ module _ (g : Geometry) (cylinder : ℕ) (transfer : Transfer) (aim : Aim) (img 
 
   -- one byte more
   come-more : (src : List ℕ) (byte n d at : ℕ) → Come src → length src ≡ n * P + d → d < P
-      → Stands g img cylinder (aimNo transfer aim (num n)) at
+      → Stands g img cylinder (aimNo transfer aim (num n)) at → InReach transfer aim (num n)
       → (transfer .sk ≡ true → OfKind (transfer .deleted) (getD img at 0)) → byte ≡ getD img (at + 5 + d) 0 → Come (src ++ (byte ∷ []))
-  come-more src byte n d at all size l stands own is k lk = go (le-or-lt (length src) k)
+  come-more src byte n d at all size l stands reach own is k lk = go (le-or-lt (length src) k)
     where
       go : (length src ≤ k) ⊎ (k < length src)
           → Comes g cylinder transfer aim img num k (getD (src ++ (byte ∷ [])) k 0)
@@ -125,6 +125,7 @@ module _ (g : Geometry) (cylinder : ℕ) (transfer : Transfer) (aim : Aim) (img 
           record {
             at = at;
             stands = subst (λ (x : ℕ). Stands g img cylinder (aimNo transfer aim (num x)) at) (sym q) stands;
+            reach = subst (λ (x : ℕ). InReach transfer aim (num x)) (sym q) reach;
             own = own;
             is = b ∙ is ∙ ap (λ (x : ℕ). getD img (at + 5 + x) 0) (sym r);
           }
@@ -161,19 +162,19 @@ module _ (g : Geometry) (cylinder : ℕ) (transfer : Transfer) (aim : Aim) (img 
     held-size = length-take-le (f .count) (f .bytes) within
 
     pub flow-fill : (fifothr : ℕ) (last : Bool) (byte at : ℕ) → Flow n done f t → done < P
-        → Stands g img cylinder (aimNo transfer aim (num n)) at
+        → Stands g img cylinder (aimNo transfer aim (num n)) at → InReach transfer aim (num n)
         → (transfer .sk ≡ true → OfKind (transfer .deleted) (getD img at 0)) → byte ≡ getD img (at + 5 + done) 0
         → (f .tc ≡ false → fullOf efifo f ≡ false) → Flow n (done + 1) (filledOf efifo fifothr last byte f) t
-    flow-fill fifothr last byte at (flows a b c d e) l stands own is room =
+    flow-fill fifothr last byte at (flows a b c d e) l stands reach own is room =
         let r = room a in
         let src : List ℕ = t .got ++ held f in
         let size : length src ≡ n * P + done = length-append (t .got) (held f) ∙ omega (arith, held-size, d) in
-        let all : Come (src ++ (byte ∷ [])) = come-more src byte n done at e size l stands own is in
+        let all : Come (src ++ (byte ∷ [])) = come-more src byte n done at e size l stands reach own is in
         flows (filled-tc efifo fifothr last byte f ∙ a) b c
         (omega (arith, filled-count efifo fifothr last byte f a r, d))
         (subst Come (append-assoc (t .got) (held f) (byte ∷ [])
         ∙ ap (λ (x : List ℕ). t .got ++ x) (sym (filled-held efifo fifothr last byte f a r (fits .sixteen)))) all)
-    flow-fill fifothr last byte at (ended a b c d e x y) l stands own is room =
+    flow-fill fifothr last byte at (ended a b c d e x y) l stands reach own is room =
         rw (filled-tc-same efifo fifothr last byte f a) (ended a b c d e x y)
 
     pub flow-take : (tc : Bool) → Flow n done f t → done ≤ P → f .asks ≡ true → AsksSome f
@@ -209,6 +210,7 @@ module _ (g : Geometry) (cylinder : ℕ) (transfer : Transfer) (aim : Aim) (img 
       record {
         at = c .at;
         stands = subst (λ (x : ℕ). Stands g img cylinder (aimNo transfer aim x) (c .at)) (sym (stay _ below)) (c .stands);
+        reach = subst (λ (x : ℕ). InReach transfer aim x) (sym (stay _ below)) (c .reach);
         own = c .own;
         is = c .is;
       }

@@ -13,18 +13,13 @@ use Rattle.image.specs.declared.disk.Disk.the-variants.{Present}
 use Rattle.image.specs.declared.layout.Geometry.{Geometry}
 use Rattle.image.specs.declared.slot.Id.{Id}
 use Rattle.image.specs.Disk.{diskIn}
-use Rattle.image.specs.Layout.{sizeOf}
 use Rattle.fdc.specs.declared.record.Controller.{Controller}
 use Rattle.fdc.specs.declared.record.Phase.the-variants.{Starting, Answering}
 use Rattle.fdc.specs.Moves.{AllCalm}
 use Rattle.fdc.specs.Runs.{Call, runCalls}
 use Rattle.demands.specs.History.{no-one, some-of, History, fresh, historyOf}
-use Rattle.demands.specs.PowerCut.{Writes, Aim, aimNo}
+use Rattle.demands.specs.PowerCut.{Writes, Aim, aimNo, passing}
 use Rattle.demands.specs.Work.{atWork, Its, Alone}
-
--- the bytes of a sector that pass between host and disk: all
-abbrev pub passing : Geometry → ℕ
-passing g = sizeOf (g .n)
 
 -- the sectors finished
 abbrev pub doneCount : History → ℕ

@@ -22,8 +22,8 @@ use Rattle.fdc.specs.declared.answer.Reply.the-variants.{Done, Byte, Refused}
 use Rattle.fdc.specs.declared.record.Controller.{Controller}
 use Rattle.fdc.specs.declared.record.Phase.the-variants.{Starting, Answering}
 use Rattle.fdc.specs.Runs.{Call, powers, reads, writes, takes, gives, ticks, notes, answerTo, after, runCalls}
-use Rattle.demands.specs.Acknowledged.{passing, resultByte, resultId}
-use Rattle.demands.specs.PowerCut.{Aim, aimNo, Stands, headOf}
+use Rattle.demands.specs.Acknowledged.{resultByte, resultId}
+use Rattle.demands.specs.PowerCut.{Aim, aimNo, InReach, Stands, headOf, passing}
 use Rattle.demands.specs.Work.{Its, Alone, imageLeft}
 
 -- a Read Data or Read Deleted was accepted: any drive, side, MT, SK, DMA or not, FIFO on or off
@@ -92,10 +92,12 @@ module _ (g : Geometry) (cylinder : ℕ) (transfer : Transfer) (aim : Aim) (img 
     pub passed : (i : ℕ) → i < num n → Passed num n i
     pub plain : transfer .sk ≡ false → (j : ℕ) → num j ≡ j
 
-  -- byte number k: byte k mod P of the sector k div P of those read; with SK its mark is of the command's kind
+  -- byte number k: byte k mod P of the sector k div P of those read, which is none behind EOT; with SK its mark is of the
+  -- command's kind
   pub record Comes (num : ℕ → ℕ) (k byte : ℕ) : Type 0 where
     pub at : ℕ
     pub stands : Stands g img cylinder (aimNo transfer aim (num (k / passing g))) at
+    pub reach : InReach transfer aim (num (k / passing g))
     pub own : transfer .sk ≡ true → OfKind (transfer .deleted) (getD img at 0)
     pub is : byte ≡ getD img (at + 5 + k % passing g) 0
 
@@ -155,6 +157,7 @@ pub record IsByte (g : Geometry) (cylinder : ℕ) (transfer : Transfer) (aim : A
   where
     pub at : ℕ
     pub stands : Stands g img cylinder (aimNo transfer aim (k / passing g)) at
+    pub reach : InReach transfer aim (k / passing g)
     pub is : byte ≡ getD img (at + 5 + k % passing g) 0
 
 abbrev pub HandedPlain : (Controller → Type 0) → Type 0

@@ -56,6 +56,10 @@ aimNo transfer aim (suc n) = onward transfer (aimNo transfer aim n)
 abbrev pub Followed : Transfer → Aim → Type 0
 Followed transfer aim = aim .id .r ≡ transfer .eot → (transfer .mt ≡ true) × (aim .side ≡ 0)
 
+-- the command comes to its sector number m: each one before it is followed by another
+abbrev pub InReach : Transfer → Aim → ℕ → Type 0
+InReach transfer aim m = (i : ℕ) → i < m → Followed transfer (aimNo transfer aim i)
+
 -- 01 Image: marks above 5 count as 0
 abbrev pub Counts : ℕ → Type 0
 Counts mark = (0 < mark) × (mark ≤ 5)
@@ -70,17 +74,21 @@ pub record Stands (g : Geometry) (img : List ℕ) (cylinder : ℕ) (aim : Aim) (
   pub address : idAt img at ≡ aim .id
   pub size : aim .id .n ≡ g .n
 
+-- P, the bytes of a sector that pass between host and disk: all of its B
+abbrev pub passing : Geometry → ℕ
+passing g = sizeOf (g .n)
+
 -- a finished sector, number n of the command: the good mark of the command's kind, and byte i is the host's byte
--- n x B + i; past the host's bytes it is 0
+-- n x P + i; past the host's bytes it is 0
 pub record Finished (g : Geometry) (deleted : Bool) (img host : List ℕ) (n at : ℕ) : Type 0 where
   pub mark : getD img at 0 ≡ byteOf (Data deleted false)
-  pub bytes : (i : ℕ) → i < sizeOf (g .n) → getD img (at + 5 + i) 0 ≡ getD host (n * sizeOf (g .n) + i) 0
+  pub bytes : (i : ℕ) → i < passing g → getD img (at + 5 + i) 0 ≡ getD host (n * passing g + i) 0
 
 -- the begun one, number n: the broken mark, `done` new bytes, then old ones
 pub record HalfDone (g : Geometry) (deleted : Bool) (old img host : List ℕ) (n at done : ℕ) : Type 0 where
   pub mark : getD img at 0 ≡ byteOf (Data deleted true)
   pub short : done ≤ sizeOf (g .n)
-  pub new-bytes : (i : ℕ) → i < done → getD img (at + 5 + i) 0 ≡ getD host (n * sizeOf (g .n) + i) 0
+  pub new-bytes : (i : ℕ) → i < done → getD img (at + 5 + i) 0 ≡ getD host (n * passing g + i) 0
   pub old-bytes : (i : ℕ) → done ≤ i → i < sizeOf (g .n) → getD img (at + 5 + i) 0 ≡ getD old (at + 5 + i) 0
 
 -- place i is neither the mark of the sector there nor one of its stored bytes
@@ -127,9 +135,9 @@ pub record LeftBy (g : Geometry) (cylinder : ℕ) (transfer : Transfer) (aim : A
   pub finished : AllFinished g cylinder transfer aim old img (h .host) (h .finished)
   pub begun : BegunHalf g cylinder transfer aim old img (h .host) (length (h .finished)) (h .begun)
   -- the zeros past the host's bytes came only after TC
-  pub ran-out : length (h .host) < length (h .finished) * sizeOf (g .n) + begunBytes (h .begun) → h .told ≡ true
+  pub ran-out : length (h .host) < length (h .finished) * passing g + begunBytes (h .begun) → h .told ≡ true
   -- a sector, number k, is begun or finished only with a host byte of its own
-  pub fed : (k : ℕ) → k < length (h .finished) + begunOnes (h .begun) → k * sizeOf (g .n) < length (h .host)
+  pub fed : (k : ℕ) → k < length (h .finished) + begunOnes (h .begun) → k * passing g < length (h .host)
   -- and none past EOT
   pub no-further : (k : ℕ) → k + 1 < length (h .finished) + begunOnes (h .begun)
       → Followed transfer (aimNo transfer aim k)
