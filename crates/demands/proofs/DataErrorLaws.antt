@@ -82,7 +82,7 @@ use Rattle.demands.proofs.FollowLaws.{StartsBroken, OnStage, siteAt, di
 use Rattle.demands.proofs.TickRules.{transfer-rule}
 
 -- 01 Data commands: a header is as it was met
-same-geometry : (g : Geometry) → sameOf g g ≡ true
+pub same-geometry : (g : Geometry) → sameOf g g ≡ true
 unfolding sameOf
 same-geometry g =
     simp (
@@ -104,17 +104,17 @@ settled-heads (Ends verdict) fifo c = refl
 settled-heads (Works work) fifo c = refl
 
 module _ (a b : List ℕ) (drive : ℕ) (o : Step) (c : Controller) (e : ruledOf a b c ≡ decidedOf drive o c) where
-  tick-record : after (ticks a b) c ≡ settledOf (o .then) (o .fifo) c
+  pub tick-record : after (ticks a b) c ≡ settledOf (o .then) (o .fifo) c
   unfolding decidedOf
   tick-record = after-tick a b c ∙ ap (λ (d : Decision). d .controller) e
 
-  tick-head : driveAt drive (after (ticks a b) c .drives) .head ≡ driveAt drive (c .drives) .head
+  pub tick-head : driveAt drive (after (ticks a b) c .drives) .head ≡ driveAt drive (c .drives) .head
   tick-head =
       ap (λ (x : Controller). driveAt drive (x .drives) .head) tick-record
       ∙ ap (λ (x : List Drive). driveAt drive x .head) (settled-heads (o .then) (o .fifo) c)
 
   -- a tick that stores nothing leaves the image
-  tick-image : (k : ℕ) → o .effect ≡ Nothing → (img : List ℕ) → imageAfter k a b c img ≡ img
+  pub tick-image : (k : ℕ) → o .effect ≡ Nothing → (img : List ℕ) → imageAfter k a b c img ≡ img
   unfolding imageAfter decidedOf
   tick-image k n img = rw (e, n) (by-test (eqb drive k) (λ (x : List ℕ). x ≡ img) img img (λ _. refl) (λ _. refl))
 
@@ -397,14 +397,14 @@ module _ (g : Geometry) (cylinder : ℕ) (transfer : Transfer) (aim : Aim) (old 
         on-track = omega (arith, has .on-track);
       }
 
-low-drive : (e : Controller) (order : Order) → Quiet e → e .phase ≡ Starting order → order .drive < 4
+pub low-drive : (e : Controller) (order : Order) → Quiet e → e .phase ≡ Starting order → order .drive < 4
 low-drive e order q p = go (e .phase) p (q .proper)
   where
     go : (q : Phase) → q ≡ Starting order → Proper q → order .drive < 4
     go q f h = (rw f at h) .0
 
 -- another conclusion
-ends-map : (P Q : Controller → Type 0) → ((c : Controller) → P c → Q c) → (calls : List Call) (c : Controller)
+pub ends-map : (P Q : Controller → Type 0) → ((c : Controller) → P c → Q c) → (calls : List Call) (c : Controller)
     → command.Ends P calls c → command.Ends Q calls c
 unfolding command.Ends
 ends-map P Q f [] c (a, x) = (a, f c x)

@@ -138,14 +138,14 @@ matched x y n m =
     let (e1, e2) = both c h m2 in
     (same-id x y (eqb-true _ _ e1) (eqb-true _ _ e2) (eqb-true _ _ e3) (eqb-true _ _ e4), eqb-true _ _ e5)
 
-data≢none : (deleted broken : Bool) → Data deleted broken ≡ NoData → ⊥
+pub data≢none : (deleted broken : Bool) → Data deleted broken ≡ NoData → ⊥
 data≢none deleted broken e = let z : _≡_ {A = ℕ} 0 1 = cc in omega arith
 
-read≢write : (p : Pass) → p ≡ Read → p ≡ Write → ⊥
+pub read≢write : (p : Pass) → p ≡ Read → p ≡ Write → ⊥
 read≢write p e f = let z : _≡_ {A = ℕ} 0 1 = cc in omega arith
 
 -- the two facts of a mark
-mark-kind : (m : Mark) (a b c d : Bool) → m ≡ Data a b → m ≡ Data c d → (c ≡ a) × (d ≡ b)
+pub mark-kind : (m : Mark) (a b c d : Bool) → m ≡ Data a b → m ≡ Data c d → (c ≡ a) × (d ≡ b)
 mark-kind m a b c d e f = (cc, cc)
 
 module _ (g : Geometry) (img : List ℕ) (head drive side t : ℕ) (kind : Bool) (transfer : Transfer) (id : Id)

@@ -16,6 +16,9 @@ pub mod LeftLaws
 pub mod OtherLaws
 pub mod PowerCutLaws
 pub mod QuietLaws
+pub mod ReadServedLaws
+pub mod ReadSucceedsLaws
 pub mod RequestLaws
+pub mod SearchLaws
 pub mod StepsLaws
 pub mod TickRules

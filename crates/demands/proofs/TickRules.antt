@@ -9,7 +9,7 @@ use mathlib.Core.Logic.{_⊎_, inl, inr}
 use mathlib.Core.Path.{_≡_, refl, sym, ap, _∙_}
 use lib.Dec.{eqb, leb}
 use lib.ListN.{getD}
-use borrow.Author.Tests.{leb-true, leb-false, eqb-true, eqb-false, lt-ltb, le-ltb}
+use borrow.Author.Tests.{leb-true, leb-false, eqb-true, eqb-false, eq-eqb, lt-ltb, le-ltb}
 use Rattle.image.proofs.TestLaws.{by-test, both}
 use Rattle.chip.specs.declared.fifo.Fifo.{Fifo}
 use Rattle.chip.specs.declared.next.Next.{Next}
@@ -69,6 +69,7 @@ pub record NextEnds (tc : Bool) (site : Site) (task : Task) (verdict : Verdict) 
   pub st2 : verdict .st2 ≡ otherBit (task .other)
   pub id : verdict .id ≡ advancedOf (task .id) (task .transfer .eot) (task .transfer .mt) (site .side)
   pub eot : tc ≡ false → task .id .r ≡ task .transfer .eot
+  pub no-turn : tc ≡ false → task .transfer .mt ≡ true → site .side ≡ 0 → ⊥
 
 -- 01 Next, of a sector finished or skipped
 pub data NextRule (tc : Bool) (slot : ℕ) (site : Site) (task : Task) (fifo : Fifo) (effect : Effect) (o : Step)
@@ -177,18 +178,32 @@ module _ (slot : ℕ) (site : Site) (task : Task) (fifo : Fifo) (effect : Effect
       let mt = task .transfer .mt in
       let P : Next → Type 0 = λ n. NextRule tc slot site task fifo effect (followedOf n slot site task fifo effect) in
       by-test tc P _ _
-      (λ t. stops _ (record { st0 = rw t; st1 = rw t; st2 = omega arith; id = refl; eot = λ f. absurd (true≢false (sym t ∙ f)) }) refl)
+      (λ t. stops _ (record {
+        st0 = rw t;
+        st1 = rw t;
+        st2 = omega arith;
+        id = refl;
+        eot = λ f. absurd (true≢false (sym t ∙ f));
+        no-turn = λ f. absurd (true≢false (sym t ∙ f));
+      }) refl)
       (λ t. by-test (eqb (id .r) eot) P _ _
       (λ r. by-test (mt && eqb (site .side) 0) P _ _
       (λ m. let b = both mt (eqb (site .side) 0) m in turns t (eqb-true _ _ r) (b .0) (eqb-true _ _ (b .1)) refl)
-      (λ m. stops _ (record { st0 = rw t; st1 = rw t; st2 = omega arith; id = refl; eot = λ f. eqb-true _ _ r }) refl))
+      (λ m. stops _ (record {
+        st0 = rw t;
+        st1 = rw t;
+        st2 = omega arith;
+        id = refl;
+        eot = λ f. eqb-true _ _ r;
+        no-turn = λ f x y. true≢false (sym (rw (x, eq-eqb (site .side) 0 y)) ∙ m);
+      }) refl))
       (λ r. steps t (eqb-false _ _ r) refl))
 
 pos-ne : (n : ℕ) → (n ≡ 0 → ⊥) → 0 < n
 pos-ne zero h = absurd (h refl)
 pos-ne (suc n) h = omega arith
 
-beq-same : (a b : Bool) → a ≡ b → not (Bool·beq a b) ≡ false
+pub beq-same : (a b : Bool) → a ≡ b → not (Bool·beq a b) ≡ false
 beq-same true b e = rw (← e) refl
 beq-same false b e = rw (← e) refl
 

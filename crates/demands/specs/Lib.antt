@@ -6,4 +6,5 @@ pub mod History
 pub mod InTime
 pub mod PowerCut
 pub mod Quiet
+pub mod ReadSucceeds
 pub mod Work
