@@ -350,7 +350,7 @@ module _ (g : Geometry) (cylinder : ℕ) (transfer : Transfer) (aim : Aim) (old 
   spares-begun host n no-one half i l = tt
   spares-begun host n (some-of at bytes) half i l = spared at _ i (stands-behind g old cylinder _ _ (half .0)) l
 
-  disk-left : (h : History) → LeftBy g cylinder transfer aim old img h → diskIn img ≡ diskIn old
+  pub disk-left : (h : History) → LeftBy g cylinder transfer aim old img h → diskIn img ≡ diskIn old
   disk-left h left =
       header-bytes img old
       (λ i l. left .others i (spares-all (h .host) (h .finished) (left .finished) i l)

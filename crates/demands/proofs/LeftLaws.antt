@@ -50,7 +50,7 @@ module _ (g : Geometry) (cylinder : ℕ) (old : List ℕ) (fits : Fits g old) wh
   stands-inside a at st = omega (arith, slot-inside g cylinder (a .side) (st .slot) (st .has), st .place, fits .size)
 
   -- a place among a slot's first five is in another slot, or of the sector itself
-  front-differs : (a : Aim) (at p : ℕ) → Stands g old cylinder a at → Inside g at p
+  pub front-differs : (a : Aim) (at p : ℕ) → Stands g old cylinder a at → Inside g at p
       → (c s k j : ℕ) → Has g c s k → j < 5 → (at + j ≡ p → ⊥) → offsetOf g c s k + j ≡ p → ⊥
   front-differs a at p st i c s k j h l n e =
       let other : InSlot g c s k p = record { from = omega arith; below = omega arith } in

@@ -21,4 +21,5 @@ pub mod ReadSucceedsLaws
 pub mod RequestLaws
 pub mod SearchLaws
 pub mod StepsLaws
+pub mod SucceedsLaws
 pub mod TickRules

@@ -86,7 +86,7 @@ idle≢answering : (loud : Bool) → Idle ≡ Answering loud → ⊥
 idle≢answering loud e = let z : _≡_ {A = ℕ} 0 1 = cc in omega arith
 
 -- only a tick changes an image
-image-same : (drive : ℕ) (img : List ℕ) (call : Call) (c : Controller) → NoTick call → imageBy drive img call c ≡ img
+pub image-same : (drive : ℕ) (img : List ℕ) (call : Call) (c : Controller) → NoTick call → imageBy drive img call c ≡ img
 image-same drive img (powers head0 head1) c n = refl
 image-same drive img (reads offset) c n = refl
 image-same drive img (writes offset byte) c n = refl
@@ -351,7 +351,7 @@ module _ (g : Geometry) (cylinder : ℕ) (order : Order) (transfer : Transfer) (
           is-over (ap atWork o) (rw (same-h h) (run-done r)) (λ e. absurd (idle≢answering true (sym o ∙ e)))
       go (goes-on k f) = kept-run call c (after call c) img h q w k f r
 
-  run-after : (call : Call) (c : Controller) (img : List ℕ) (h : History) → Quiet c → atWork (c .phase) ≡ true
+  pub run-after : (call : Call) (c : Controller) (img : List ℕ) (h : History) → Quiet c → atWork (c .phase) ≡ true
       → Handed drive img call → Run c img h → Run (after call c) (imageBy drive img call c) (historyBy call c h)
   run-after (powers head0 head1) c img h q w e r = call-run (powers head0 head1) c img h q w tt r
   run-after (reads offset) c img h q w e r = call-run (reads offset) c img h q w tt r

@@ -4,7 +4,7 @@
 use Prim.Native.Nat.{ℕ, suc, _+_, _*_, _%_, _≤_, _<_}
 use native.Mathlib.Nat.{mod-eq-of-lt, mul-le-mul-right}
 use native.Mathlib.Omega.{arith}
-use mathlib.Core.Bool.{Bool, true, false, cond, true≢false, false≢true}
+use mathlib.Core.Bool.{Bool, true, false, true≢false, false≢true}
 use mathlib.Core.List.{List, [], _∷_}
 use mathlib.Core.Logic.{_⊎_, inl, inr}
 use mathlib.Core.Path.{_≡_, refl, sym, ap, _∙_, subst}
@@ -41,14 +41,14 @@ use Rattle.sectors.specs.declared.work.Task.{Task}
 use Rattle.sectors.specs.declared.work.Verdict.{Verdict}
 use Rattle.sectors.specs.declared.work.Work.the-variants.{Moving}
 use Rattle.sectors.specs.Follow.{freshAt}
-use Rattle.sectors.specs.Result.{st0Of, movesOf}
+use Rattle.sectors.specs.Result.{movesOf}
 use Rattle.sectors.specs.Search.{matches}
 use Rattle.sectors.specs.Track.{hasTrack, staysOf, markPlace, dataPlace, nextSlot}
 use Rattle.engine.specs.First.{gateOf, taskOf, movingOf, startOf, enteredOf, beginOf}
 use Rattle.engine.specs.Step.{fromHost, stageOf, workOf, goOnOf, passFlow}
 use Rattle.fdc.specs.declared.record.Controller.{Controller}
 use Rattle.fdc.specs.declared.record.Phase.{Phase}
-use Rattle.fdc.specs.declared.record.Phase.the-variants.{Starting, Working, Answering}
+use Rattle.fdc.specs.declared.record.Phase.the-variants.{Starting, Working}
 use Rattle.fdc.specs.Commands.{answeredOf}
 use Rattle.fdc.specs.Data.{phaseFromHost}
 use Rattle.fdc.specs.Good.{Suits}
@@ -57,14 +57,15 @@ use Rattle.fdc.specs.Record.{driveAt, withFifo, withPhase}
 use Rattle.fdc.specs.Registers.{motorIn}
 use Rattle.fdc.specs.Runs.{Call, powers, reads, writes, takes, gives, ticks, notes, after}
 use Rattle.fdc.specs.Ticks.{seenOf, settledOf, decidedOf, ruledOf, imageAfter}
-use Rattle.demands.specs.Acknowledged.{resultByte, resultId}
 use Rattle.demands.specs.DataError.{Spins}
 use Rattle.demands.specs.EndsInTime.{boundOf}
-use Rattle.demands.specs.HandedOver.{Taken, untaken, tookOne, takenBy, IsGood}
-use Rattle.demands.specs.InTime.{Late, Timely, AtTick, AtTicks, InTime, Prompt}
-use Rattle.demands.specs.PowerCut.{Aim, aimNo, Followed, headOf}
+use Rattle.demands.specs.HandedOver.{Taken, untaken, tookOne, takenBy}
+use Rattle.demands.specs.InTime.{Late, Timely, AtTick, AtTicks, InTime}
+use Rattle.demands.specs.PowerCut.{Aim, aimNo, headOf}
 use Rattle.demands.specs.Quiet.{Quiet}
-use Rattle.demands.specs.ReadSucceeds.{AsTaken, TellsAt, ReadSucceeds, Untold, AtEot, ReadsToEot}
+use Rattle.demands.specs.ReadSucceeds.{AsTaken, TellsAt, AllGood, ReadSucceeds, ReadSucceedsInTime, Untold}
+use Rattle.demands.specs.ReadSucceeds.{ReadReachesEot}
+use Rattle.demands.specs.Succeeds.{Fill, EndedAt, LastOne}
 use Rattle.demands.specs.Work.{Real, atWork, imageBy, Handed, Alone, Anyhow}
 use Rattle.demands.specs.Work as command
 use Rattle.demands.proofs.AddressLaws.{onward-turn, onward-stay}
@@ -72,7 +73,7 @@ use Rattle.demands.proofs.CallLaws.{tick-starts, tick-works, call-rule,
 use Rattle.demands.proofs.CallRules.{NoTick, MayTake, FifoRule, same, took, gave, TakenRule, none-taken}
 use Rattle.demands.proofs.CallRules.{one-taken, Keeps, CallRule, cut-off, goes-on}
 use Rattle.demands.proofs.CutLaws.{marked-counts, matches-id, next-slot-below}
-use Rattle.demands.proofs.DataErrorLaws.{same-geometry, tick-record, tick-head, tick-image, low-drive, ends-map}
+use Rattle.demands.proofs.DataErrorLaws.{same-geometry, tick-record, tick-head, tick-image, low-drive}
 use Rattle.demands.proofs.EndsLaws.{ends-in-time-quiet}
 use Rattle.demands.proofs.FollowLaws.{siteAt, data≢none, read≢write, mark-kind}
 use Rattle.demands.proofs.HandedOverLaws.{doneIn}
@@ -111,13 +112,12 @@ record Plan (g : Geometry) (cylinder : ℕ) (transfer : Transfer) (aim : Aim) (i
     (normal : Bool) (last : ℕ) : Type 0 where
   sound : Sound g img
   reads : transfer .pass ≡ Read
-  good : (k : ℕ) → k ≤ last → IsGood g cylinder transfer aim img k
-  followed : (k : ℕ) → k < last → Followed transfer (aimNo transfer aim k)
+  all : AllGood g img cylinder transfer aim last
   told : (n : ℕ) (t : Taken) → Told t → n ≤ last → t .told ≡ true → length (t .got) ≤ n * sizeOf (g .n) + sizeOf (g .n)
       → (n ≡ last) × (normal ≡ true)
   untold : (n : ℕ) (t : Taken) → Told t → n ≤ last → t .told ≡ false
       → length (t .got) ≡ n * sizeOf (g .n) + sizeOf (g .n) → (n < last) ⊎ ((n ≡ last) × (normal ≡ false))
-  at-eot : normal ≡ false → AtEot transfer (aimNo transfer aim last)
+  at-eot : normal ≡ false → LastOne transfer (aimNo transfer aim last)
 
 module _ (g : Geometry) (cylinder drive : ℕ) (transfer : Transfer) (aim : Aim) (img : List ℕ) (Told : Taken → Type 0)
     (normal : Bool) (last : ℕ) (plan : Plan g cylinder transfer aim img Told normal last) where
@@ -152,7 +152,7 @@ module _ (g : Geometry) (cylinder drive : ℕ) (transfer : Transfer) (aim : Aim)
   -- at sector number n
   record Course (n : ℕ) (stage : Stage) (f : Fifo) (t : Taken) : Type 0 where
     within : n ≤ last
-    on : On (plan .good n within .stands .slot) stage
+    on : On (plan .all .good n within .stands .slot) stage
     asks : AsksSome f
     flow : Flowing n (bytesIn stage) f t
 
@@ -169,18 +169,18 @@ module _ (g : Geometry) (cylinder drive : ℕ) (transfer : Transfer) (aim : Aim)
     now = aimNo transfer aim n
 
     abbrev slot : ℕ
-    slot = plan .good n l .stands .slot
+    slot = plan .all .good n l .stands .slot
 
     abbrev has : Has g cylinder (now .side) slot
-    has = plan .good n l .stands .has
+    has = plan .all .good n l .stands .has
 
     mark-there : markOf (getD img (offsetOf g cylinder (now .side) slot) 0) ≡ Data (transfer .deleted) false
     mark-there =
-        ap (λ (k : ℕ). markOf (getD img k 0)) (sym (plan .good n l .stands .place)) ∙ ap markOf (plan .good n l .mark)
+        ap (λ (k : ℕ). markOf (getD img k 0)) (sym (plan .all .good n l .stands .place)) ∙ ap markOf (plan .all .good n l .mark)
         ∙ mark-of-byte (Data (transfer .deleted) false)
 
     id-there : idAt img (offsetOf g cylinder (now .side) slot) ≡ now .id
-    id-there = ap (idAt img) (sym (plan .good n l .stands .place)) ∙ plan .good n l .stands .address
+    id-there = ap (idAt img) (sym (plan .all .good n l .stands .place)) ∙ plan .all .good n l .stands .address
 
     hit : hits img (siteNo n) cylinder (taskNo n) slot ≡ true
     unfolding markPlace
@@ -191,7 +191,7 @@ module _ (g : Geometry) (cylinder drive : ℕ) (transfer : Transfer) (aim : Aim)
           eq-eqb _ _ (ap (λ (i : Id). i .h) id-there),
           eq-eqb _ _ (ap (λ (i : Id). i .r) id-there),
           eq-eqb _ _ (ap (λ (i : Id). i .n) id-there),
-          eq-eqb _ _ (ap (λ (i : Id). i .n) id-there ∙ plan .good n l .stands .size),
+          eq-eqb _ _ (ap (λ (i : Id). i .n) id-there ∙ plan .all .good n l .stands .size),
         )
 
     -- 01 Image sound: no other slot of the track matches
@@ -208,7 +208,7 @@ module _ (g : Geometry) (cylinder drive : ℕ) (transfer : Transfer) (aim : Aim)
         has-k = record { on-disk = has .on-disk; on-cylinder = has .on-cylinder; on-track = lk }
 
         some : 0 < getD img (offsetOf g cylinder (now .side) slot) 0
-        some = rw (plan .good n l .stands .place) at (plan .good n l .stands .marked .0)
+        some = rw (plan .all .good n l .stands .place) at (plan .all .good n l .stands .marked .0)
 
         go : (k ≤ slot) ⊎ (slot < k) → (slot ≤ k) ⊎ (k < slot) → 0 < getD img (offsetOf g cylinder (now .side) k) 0
             → idAt img (offsetOf g cylinder (now .side) k) ≡ idAt img (offsetOf g cylinder (now .side) slot)
@@ -230,10 +230,10 @@ module _ (g : Geometry) (cylinder drive : ℕ) (transfer : Transfer) (aim : Aim)
   module _ (efifo : Bool) (fifothr n : ℕ) (stage : Stage) (f : Fifo) (t : Taken) (fit : FitsFifo efifo f)
       (told : Told t) (w : Course n stage f t) (timely : Late efifo (siteNo n) f stage → ⊥) where
     abbrev here : ℕ
-    here = plan .good n (w .within) .stands .slot
+    here = plan .all .good n (w .within) .stands .slot
 
     abbrev at-now : Has g cylinder (aimNo transfer aim n .side) here
-    at-now = plan .good n (w .within) .stands .has
+    at-now = plan .all .good n (w .within) .stands .has
 
     -- to another stage of the same sector
     to : (stage′ : Stage) (f′ : Fifo) → On here stage′ → AsksSome f′ → Flowing n (bytesIn stage′) f′ t
@@ -247,17 +247,17 @@ module _ (g : Geometry) (cylinder drive : ℕ) (transfer : Transfer) (aim : Aim)
     unfolding dataPlace markPlace
     fill sector done end f′ s l fl x =
         let p : getD img (offsetOf g cylinder (aimNo transfer aim n .side) (sector .slot) + 5 + done) 0
-        ≡ getD img (plan .good n (w .within) .at + 5 + done) 0 =
+        ≡ getD img (plan .all .good n (w .within) .at + 5 + done) 0 =
         ap (λ (k : ℕ). getD img (k + 5 + done) 0)
         (ap (λ (y : Sector). offsetOf g cylinder (aimNo transfer aim n .side) (y .slot)) s
-        ∙ sym (plan .good n (w .within) .stands .place)) in
+        ∙ sym (plan .all .good n (w .within) .stands .place)) in
         rw (x .after) (
           some-filled efifo fifothr end _ f (w .asks),
           flow-fill g cylinder transfer aim img (λ j. j) efifo n done f t fit fifothr end _ _ fl l
-              (plan .good n (w .within) .stands) (λ i before. plan .followed i (omega (arith, w .within)))
+              (plan .all .good n (w .within) .stands) (λ i before. plan .all .on i (omega (arith, w .within)))
               (λ k. record {
                 broken = false;
-                is = ap markOf (plan .good n (w .within) .mark) ∙ mark-of-byte (Data (transfer .deleted) false);
+                is = ap markOf (plan .all .good n (w .within) .mark) ∙ mark-of-byte (Data (transfer .deleted) false);
               })
               p (x .room),
         )
@@ -279,7 +279,7 @@ module _ (g : Geometry) (cylinder drive : ℕ) (transfer : Transfer) (aim : Aim)
     next o z fl (stops verdict v e) = go fl
       where
         no-more : f .tc ≡ false → (n < last) ⊎ ((n ≡ last) × (normal ≡ false)) → Gives t o
-        no-more u (inl l) = let (m, s) = plan .followed n l (v .eot u) in absurd (v .no-turn u m s)
+        no-more u (inl l) = let (m, s) = plan .all .on n l (v .eot u) in absurd (v .no-turn u m s)
         no-more u (inr (q, x)) = ends verdict (over-at verdict (f .tc) q (u ∙ sym x) v) e
 
         go : Flowing n P f t → Gives t o
@@ -299,7 +299,7 @@ module _ (g : Geometry) (cylinder drive : ℕ) (transfer : Transfer) (aim : Aim)
               flow = flow-next g cylinder transfer aim img (λ j. j) fl refl z u;
             })
             (rw (onward-turn transfer (aimNo transfer aim n) r) e)
-        go (inr (q, x)) = absurd (plan .at-eot x .1 m (ap (λ (k : ℕ). aimNo transfer aim k .side) (sym q) ∙ d))
+        go (inr (q, x)) = absurd (plan .at-eot x .no-turn m (ap (λ (k : ℕ). aimNo transfer aim k .side) (sym q) ∙ d))
     next o z fl (steps u r e) = go (more u z fl)
       where
         go : (n < last) ⊎ ((n ≡ last) × (normal ≡ false)) → Gives t o
@@ -312,7 +312,7 @@ module _ (g : Geometry) (cylinder drive : ℕ) (transfer : Transfer) (aim : Aim)
               flow = flow-next g cylinder transfer aim img (λ j. j) fl refl z u;
             })
             (rw (onward-stay transfer (aimNo transfer aim n) r) e)
-        go (inr (q, x)) = absurd (r (ap (λ (k : ℕ). aimNo transfer aim k .id .r) q ∙ plan .at-eot x .0))
+        go (inr (q, x)) = absurd (r (ap (λ (k : ℕ). aimNo transfer aim k .id .r) q ∙ plan .at-eot x .eot))
 
     course-rule : (o : Step) → Rule cylinder img efifo fifothr (siteNo n) (taskNo n) f stage o → Gives t o
     course-rule o (notFound look verdict p h l k x y v e) =
@@ -402,13 +402,8 @@ module _ (g : Geometry) (cylinder : ℕ) (order : Order) (transfer : Transfer) (
   abbrev taskIn : ℕ → Task
   taskIn n = taskOf transfer (aimNo transfer aim n .id)
 
-  -- the result waits, with what Next ends it with
-  record Said (c : Controller) : Type 0 where
-    waits : c .phase ≡ Answering true
-    st0 : resultByte 0 c ≡ st0Of normal drive (aimNo transfer aim last .side)
-    st1 : resultByte 1 c ≡ cond normal 0x00 0x80
-    st2 : resultByte 2 c ≡ 0x00
-    address : resultId c ≡ aimNo transfer aim (suc last) .id
+  abbrev Said : Controller → Type 0
+  Said c = EndedAt normal order transfer aim last c
 
   -- not yet started, at one of its sectors, or over
   data Way (c : Controller) (t : Taken) : Type 0 where
@@ -434,8 +429,8 @@ module _ (g : Geometry) (cylinder : ℕ) (order : Order) (transfer : Transfer) (
   seen dor m = rw (m, disk)
 
   -- the first tick: the tests are passed, and the search starts at slot 0
-  first-has : Has g cylinder (order .side) (plan .good 0 (omega arith) .stands .slot)
-  first-has = plan .good 0 (omega arith) .stands .has
+  first-has : Has g cylinder (order .side) (plan .all .good 0 (omega arith) .stands .slot)
+  first-has = plan .all .good 0 (omega arith) .stands .has
 
   begun : (f : Fifo)
       → beginOf order (Present g) cylinder f ≡ movesOf (Searching (freshAt 0)) (siteIn 0) (taskIn 0) f Nothing
@@ -540,7 +535,7 @@ module _ (g : Geometry) (cylinder : ℕ) (order : Order) (transfer : Transfer) (
       }
     where
       most : (stage : Stage)
-          → On g cylinder drive transfer aim img Told normal last plan (plan .good n (w .within) .stands .slot) stage
+          → On g cylinder drive transfer aim img Told normal last plan (plan .all .good n (w .within) .stands .slot) stage
           → doneIn g cylinder drive transfer aim img stage ≤ sizeOf (g .n)
       most (Searching look) o = omega arith
       most (Turning from) o = omega arith
@@ -643,53 +638,51 @@ module _ (g : Geometry) (cylinder : ℕ) (order : Order) (transfer : Transfer) (
 
   ends-said : (calls : List Call) (c : Controller) → Quiet c → c .phase ≡ Starting order
       → driveAt drive (c .drives) .head ≡ cylinder → Told untaken → Spins drive calls c → Alone drive img calls c
-      → Prompt calls c → AsTaken Told calls c untaken → boundOf g ≤ tickCount calls → command.Ends Said calls c
-  ends-said calls c q p h none spins alone prompt tells more =
-      ends-so calls c untaken (record { quiet = q; head-is = h; told = none; way = starts p refl }) spins alone
-      (prompt-in-time-quiet c q order transfer id (record { accepted = p; moves = job }) calls prompt) tells
-      (ends-in-time-quiet c q order p img g disk calls alone more)
+      → InTime calls c → AsTaken Told calls c untaken → boundOf g ≤ tickCount calls → command.Ends Said calls c
+  ends-said calls c q p h none spins alone timely tells more =
+      ends-so calls c untaken (record { quiet = q; head-is = h; told = none; way = starts p refl }) spins alone timely
+      tells (ends-in-time-quiet c q order p img g disk calls alone more)
 
--- With TC: L bytes end in sector `last`.
-module _ (g : Geometry) (cylinder : ℕ) (transfer : Transfer) (aim : Aim) (img : List ℕ) (L last : ℕ)
-    (above : last * sizeOf (g .n) < L) (below : L ≤ (last + 1) * sizeOf (g .n)) where
-  told-plan : Sound g img → transfer .pass ≡ Read → ((k : ℕ) → k ≤ last → IsGood g cylinder transfer aim img k)
-      → ((k : ℕ) → k < last → Followed transfer (aimNo transfer aim k))
-      → Plan g cylinder transfer aim img (TellsAt L) true last
-  told-plan sound rd good followed =
-      record {
-        sound = sound;
-        reads = rd;
-        good = good;
-        followed = followed;
-        told = λ n t x l u m. (is-last (sizeOf (g .n)) n last (length (t .got)) L m (x .0 u) above l, refl);
-        untold = λ n t x l u m. inl (before-last (sizeOf (g .n)) n last (length (t .got)) L m (fewer t x u) below);
-        at-eot = λ e. absurd (true≢false e);
-      }
-    where
-      fewer : (t : Taken) → TellsAt L t → t .told ≡ false → length (t .got) < L
-      fewer t x u = go (le-or-lt L (length (t .got)))
-        where
-          go : (L ≤ length (t .got)) ⊎ (length (t .got) < L) → length (t .got) < L
-          go (inl m) = absurd (false≢true (sym u ∙ x .1 m))
-          go (inr m) = m
+-- With TC: the bytes end in sector `last`.
+told-plan : (g : Geometry) (cylinder : ℕ) (transfer : Transfer) (aim : Aim) (img : List ℕ) (bytes last : ℕ)
+    → Fill g bytes last → Sound g img → transfer .pass ≡ Read → AllGood g img cylinder transfer aim last
+    → Plan g cylinder transfer aim img (TellsAt bytes) true last
+told-plan g cylinder transfer aim img bytes last fill sound rd all =
+    record {
+      sound = sound;
+      reads = rd;
+      all = all;
+      told = λ n t x l u m. (is-last (sizeOf (g .n)) n last (length (t .got)) bytes m (x .0 u) (fill .more) l, refl);
+      untold = λ n t x l u m.
+          inl (before-last (sizeOf (g .n)) n last (length (t .got)) bytes m (fewer t x u) (fill .most));
+      at-eot = λ e. absurd (true≢false e);
+    }
+  where
+    fewer : (t : Taken) → TellsAt bytes t → t .told ≡ false → length (t .got) < bytes
+    fewer t x u = go (le-or-lt bytes (length (t .got)))
+      where
+        go : (bytes ≤ length (t .got)) ⊎ (length (t .got) < bytes) → length (t .got) < bytes
+        go (inl m) = absurd (false≢true (sym u ∙ x .1 m))
+        go (inr m) = m
+
+pub read-succeeds-in-time-quiet : ReadSucceedsInTime Quiet
+read-succeeds-in-time-quiet c q order transfer id r img g sound bytes last fill all calls spins alone timely tells
+    enough =
+    ends-said g (headOf order c) order transfer id img (TellsAt bytes) true last
+    (told-plan g _ transfer _ img bytes last fill sound (r .reads) all)
+    (low-drive c order q (r .accepted)) (r .moves) calls c q (r .accepted) refl
+    (λ e. absurd (false≢true e), λ l. absurd (omega (arith, fill .more))) spins alone timely tells enough
 
 pub read-succeeds-quiet : ReadSucceeds Quiet
-read-succeeds-quiet c q order transfer id r img g sound L last above below good followed calls spins alone prompt tells
-    enough =
-    ends-map _ _ (λ e s. record { waits = s .waits; st0 = s .st0; st1 = s .st1; st2 = s .st2; address = s .address })
-    calls c
-    (ends-said g (headOf order c) order transfer id img (TellsAt L) true last
-    (told-plan g _ transfer _ img L last above below sound (r .reads) good followed)
-    (low-drive c order q (r .accepted)) (r .moves) calls c q (r .accepted) refl
-    (λ e. absurd (false≢true e), λ l. absurd (omega arith)) spins alone prompt tells enough)
+read-succeeds-quiet c q order transfer id r img g sound bytes last fill all calls spins alone prompt =
+    read-succeeds-in-time-quiet c q order transfer id r img g sound bytes last fill all calls spins alone
+    (prompt-in-time-quiet c q order transfer id (record { accepted = r .accepted; moves = r .moves }) calls prompt)
 
 -- Without: they end at EOT.
-pub reads-to-eot-quiet : ReadsToEot Quiet
-reads-to-eot-quiet c q order transfer id r img g sound last good followed eot calls spins alone prompt tells enough =
-    ends-map _ _ (λ e s. record { waits = s .waits; st0 = s .st0; st1 = s .st1; st2 = s .st2; address = s .address })
-    calls c
-    (ends-said g (headOf order c) order transfer id img Untold false last plan (low-drive c order q (r .accepted))
-    (r .moves) calls c q (r .accepted) refl refl spins alone prompt tells enough)
+pub read-reaches-eot-quiet : ReadReachesEot Quiet
+read-reaches-eot-quiet c q order transfer id r img g sound last all eot calls spins alone timely tells enough =
+    ends-said g (headOf order c) order transfer id img Untold false last plan (low-drive c order q (r .accepted))
+    (r .moves) calls c q (r .accepted) refl refl spins alone timely tells enough
   where
     last-or-not : (n : ℕ) → n ≤ last → (last ≤ n) ⊎ (n < last) → (n < last) ⊎ ((n ≡ last) × (false ≡ false))
     last-or-not n l (inl m) = inr (omega arith, refl)
@@ -700,15 +693,17 @@ reads-to-eot-quiet c q order transfer id r img g sound last good followed eot ca
         record {
           sound = sound;
           reads = r .reads;
-          good = good;
-          followed = followed;
+          all = all;
           told = λ n t x l u m. absurd (false≢true (sym x ∙ u));
           untold = λ n t x l u m. last-or-not n l (le-or-lt last n);
           at-eot = λ e. eot;
         }
 
+pub read-succeeds-in-time : ReadSucceedsInTime Real
+read-succeeds-in-time c r = read-succeeds-in-time-quiet c (quiet-real c r)
+
 pub read-succeeds : ReadSucceeds Real
 read-succeeds c r = read-succeeds-quiet c (quiet-real c r)
 
-pub reads-to-eot : ReadsToEot Real
-reads-to-eot c r = reads-to-eot-quiet c (quiet-real c r)
+pub read-reaches-eot : ReadReachesEot Real
+read-reaches-eot c r = read-reaches-eot-quiet c (quiet-real c r)

@@ -7,4 +7,5 @@ pub mod InTime
 pub mod PowerCut
 pub mod Quiet
 pub mod ReadSucceeds
+pub mod Succeeds
 pub mod Work

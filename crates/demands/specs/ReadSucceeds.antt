@@ -1,7 +1,7 @@
 -- A read that is served promptly on a good disk ends with success (01 Read, Next, Result). Without it a box in which
 -- every command ends at once with an error would meet all that is said of a read.
 -- Assumes nothing.
-use Prim.Native.Nat.{ℕ, suc, _+_, _*_, _<_, _≤_}
+use Prim.Native.Nat.{ℕ, _<_, _≤_}
 use mathlib.Core.Bool.{true, false}
 use mathlib.Core.List.{List, [], _∷_}
 use mathlib.Core.Logic.{_↔_}
@@ -9,7 +9,6 @@ use mathlib.Core.Path.{_≡_}
 use lib.ListN.{length}
 use Rattle.sectors.specs.declared.order.Order.{Order}
 use Rattle.sectors.specs.declared.order.Transfer.{Transfer}
-use Rattle.sectors.specs.Result.{st0Of}
 use Rattle.image.specs.declared.disk.Disk.the-variants.{Present}
 use Rattle.image.specs.declared.layout.Geometry.{Geometry}
 use Rattle.image.specs.declared.slot.Id.{Id}
@@ -17,16 +16,15 @@ use Rattle.image.specs.Disk.{diskIn}
 use Rattle.image.specs.Lent.{pickOf}
 use Rattle.image.specs.Sound.{Sound}
 use Rattle.fdc.specs.declared.record.Controller.{Controller}
-use Rattle.fdc.specs.declared.record.Phase.the-variants.{Answering}
 use Rattle.fdc.specs.Moves.{tickCount}
 use Rattle.fdc.specs.Registers.{gateIn, dmaIn, motorIn}
 use Rattle.fdc.specs.Runs.{Call, after}
-use Rattle.demands.specs.Acknowledged.{resultByte, resultId}
 use Rattle.demands.specs.DataError.{Spins}
 use Rattle.demands.specs.EndsInTime.{boundOf}
 use Rattle.demands.specs.HandedOver.{Reads, Taken, untaken, takenBy, IsGood}
-use Rattle.demands.specs.InTime.{Prompt}
-use Rattle.demands.specs.PowerCut.{Aim, aimNo, Followed, headOf, passing}
+use Rattle.demands.specs.InTime.{InTime, Prompt}
+use Rattle.demands.specs.PowerCut.{Aim, aimNo, Followed, headOf}
+use Rattle.demands.specs.Succeeds.{Fill, Success, PastEot, LastOne}
 use Rattle.demands.specs.Work.{atWork, Alone, Ends}
 
 -- what the host took so far is so, after each call of the command at work
@@ -42,56 +40,45 @@ TellsAt L t = (t .told ≡ true) ↔ (L ≤ length (t .got))
 abbrev pub ReadTells : ℕ → List Call → Controller → Taken → Type 0
 ReadTells L calls c t = AsTaken (TellsAt L) calls c t
 
--- the result waits with INT on: IC 00, the side in use and the drive, ST1 00, ST2 00, and the address after the
--- command's sector number `last`
-pub record Success (order : Order) (transfer : Transfer) (aim : Aim) (last : ℕ) (e : Controller) : Type 0 where
-  pub waits : e .phase ≡ Answering true
-  pub st0 : resultByte 0 e ≡ st0Of true (order .drive) (aimNo transfer aim last .side)
-  pub st1 : resultByte 1 e ≡ 0x00
-  pub st2 : resultByte 2 e ≡ 0x00
-  pub address : resultId e ≡ aimNo transfer aim (suc last) .id
+-- sectors 0 to `last` of the command are all there under good marks of its kind, and none of them lies behind EOT
+pub record AllGood (g : Geometry) (img : List ℕ) (cylinder : ℕ) (transfer : Transfer) (aim : Aim) (last : ℕ) : Type 0
+  where
+    pub good : (k : ℕ) → k ≤ last → IsGood g cylinder transfer aim img k
+    pub on : (k : ℕ) → k < last → Followed transfer (aimNo transfer aim k)
 
--- L bytes lie in the command's sectors 0 to `last`; these are there, under good marks of the command's kind, and none
--- but the last lies where Next ends the command. Any MT, SK, FIFO and threshold, protected or not
-abbrev pub ReadSucceeds : (Controller → Type 0) → Type 0
-ReadSucceeds From =
+-- any MT, SK, FIFO and threshold, protected or not; the motor on, nobody resets the box or changes the image, the host
+-- serves it so, and the bound's ticks come. Sound, so that the slot found is the good one
+abbrev pub ReadSucceedsIf : (List Call → Controller → Type 0) → (Controller → Type 0) → Type 0
+ReadSucceedsIf Served From =
     (c : Controller) → From c → (order : Order) (transfer : Transfer) (id : Id) → Reads c order transfer id
     → (img : List ℕ) (g : Geometry) → Sound g img
-    → (L last : ℕ) → last * passing g < L → L ≤ (last + 1) * passing g
-    → ((k : ℕ) → k ≤ last → IsGood g (headOf order c) transfer (record { id = id; side = order .side }) img k)
-    → ((k : ℕ) → k < last → Followed transfer (aimNo transfer (record { id = id; side = order .side }) k))
-    → (calls : List Call) → Spins (order .drive) calls c → Alone (order .drive) img calls c
-    → Prompt calls c → ReadTells L calls c untaken → boundOf g ≤ tickCount calls
+    → (bytes last : ℕ) → Fill g bytes last
+    → AllGood g img (headOf order c) transfer (record { id = id; side = order .side }) last
+    → (calls : List Call) → Spins (order .drive) calls c → Alone (order .drive) img calls c → Served calls c
+    → ReadTells bytes calls c untaken → boundOf g ≤ tickCount calls
     → Ends (Success order transfer (record { id = id; side = order .side }) last) calls c
 
--- Without TC, which non-DMA never has: the end at EOT, with all bytes up to there taken (specs/HandedOver).
+-- each request is served before the next tick
+abbrev pub ReadSucceeds : (Controller → Type 0) → Type 0
+ReadSucceeds From = ReadSucceedsIf Prompt From
 
+-- it is enough that no byte comes late
+abbrev pub ReadSucceedsInTime : (Controller → Type 0) → Type 0
+ReadSucceedsInTime From = ReadSucceedsIf InTime From
+
+-- TC does not come; in non-DMA it cannot
 abbrev pub Untold : Taken → Type 0
 Untold t = t .told ≡ false
 
--- 01 Next: R = EOT, and not MT on side 0
-abbrev pub AtEot : Transfer → Aim → Type 0
-AtEot transfer aim = (aim .id .r ≡ transfer .eot) × (transfer .mt ≡ true → aim .side ≡ 0 → ⊥)
-
--- the result waits with INT on: IC 40, the side in use and the drive, ST1 80, ST2 00, and the address after the
--- command's sector number `last`
-pub record PastEot (order : Order) (transfer : Transfer) (aim : Aim) (last : ℕ) (e : Controller) : Type 0 where
-  pub waits : e .phase ≡ Answering true
-  pub st0 : resultByte 0 e ≡ st0Of false (order .drive) (aimNo transfer aim last .side)
-  pub st1 : resultByte 1 e ≡ 0x80
-  pub st2 : resultByte 2 e ≡ 0x00
-  pub address : resultId e ≡ aimNo transfer aim (suc last) .id
-
-abbrev pub ReadsToEot : (Controller → Type 0) → Type 0
-ReadsToEot From =
+-- without TC the same read goes on to EOT: all bytes up to there are taken (`HandedOver`, past-eot)
+abbrev pub ReadReachesEot : (Controller → Type 0) → Type 0
+ReadReachesEot From =
     (c : Controller) → From c → (order : Order) (transfer : Transfer) (id : Id) → Reads c order transfer id
     → (img : List ℕ) (g : Geometry) → Sound g img
-    → (last : ℕ)
-    → ((k : ℕ) → k ≤ last → IsGood g (headOf order c) transfer (record { id = id; side = order .side }) img k)
-    → ((k : ℕ) → k < last → Followed transfer (aimNo transfer (record { id = id; side = order .side }) k))
-    → AtEot transfer (aimNo transfer (record { id = id; side = order .side }) last)
-    → (calls : List Call) → Spins (order .drive) calls c → Alone (order .drive) img calls c
-    → Prompt calls c → AsTaken Untold calls c untaken → boundOf g ≤ tickCount calls
+    → (last : ℕ) → AllGood g img (headOf order c) transfer (record { id = id; side = order .side }) last
+    → LastOne transfer (aimNo transfer (record { id = id; side = order .side }) last)
+    → (calls : List Call) → Spins (order .drive) calls c → Alone (order .drive) img calls c → InTime calls c
+    → AsTaken Untold calls c untaken → boundOf g ≤ tickCount calls
     → Ends (PastEot order transfer (record { id = id; side = order .side }) last) calls c
 
 -- Such a host there is, in DMA mode with the gate bit on (01 Registers DRQ), for as many ticks as one likes: it takes

@@ -5,3 +5,4 @@ pub mod EndsExamples
 pub mod HandedExamples
 pub mod RegisterRuns
 pub mod RowRuns
+pub mod SucceedsExamples

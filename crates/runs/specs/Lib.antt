@@ -4,3 +4,4 @@ pub mod DataErrorExamples
 pub mod HandedExamples
 pub mod RegisterRuns
 pub mod RowRuns
+pub mod SucceedsExamples
