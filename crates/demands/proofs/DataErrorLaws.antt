@@ -7,9 +7,8 @@ use mathlib.Core.Bool.{Bool, Bool·beq, true, false, not, true≢false, false≢
 use mathlib.Core.List.{List, [], _∷_}
 use mathlib.Core.Logic.{_⊎_, inl, inr}
 use mathlib.Core.Path.{_≡_, refl, sym, ap, _∙_}
-use lib.Dec.{eqb}
 use lib.ListN.{length, getD}
-use borrow.Author.Tests.{eq-eqb, lt-ltb}
+use borrow.Author.Tests.{lt-ltb}
 use Rattle.chip.specs.declared.fifo.Fifo.{Fifo}
 use Rattle.sectors.specs.declared.order.Job.the-variants.{Move}
 use Rattle.sectors.specs.declared.order.Order.{Order}
@@ -18,8 +17,7 @@ use Rattle.sectors.specs.declared.work.Site.{Site}
 use Rattle.sectors.specs.declared.work.Stage.{Stage}
 use Rattle.sectors.specs.declared.work.Stage.the-variants.{Searching}
 use Rattle.sectors.specs.declared.work.Step.{Step}
-use Rattle.sectors.specs.declared.work.Then.{Then}
-use Rattle.sectors.specs.declared.work.Then.the-variants.{Ends, Works}
+use Rattle.sectors.specs.declared.work.Then.the-variants.{Ends}
 use Rattle.sectors.specs.declared.work.Work.the-variants.{Moving}
 use Rattle.engine.specs.First.{gateOf, taskOf, movingOf, startOf, enteredOf, beginOf}
 use Rattle.sectors.specs.Follow.{freshAt}
@@ -33,90 +31,38 @@ use Rattle.image.specs.declared.lent.Effect.the-variants.{Nothing}
 use Rattle.image.specs.declared.mark.Mark.the-variants.{Data}
 use Rattle.image.specs.declared.slot.Id.{Id}
 use Rattle.image.specs.Disk.{headerIn, geometryIn, diskIn}
-use Rattle.image.specs.Layout.{trackAt, offsetOf, Has, sameOf}
+use Rattle.image.specs.Layout.{trackAt, offsetOf, Has}
 use Rattle.image.specs.Lent.{pickOf}
 use Rattle.image.specs.Slot.{idAt}
 use Rattle.image.specs.Sound.{Sound}
 use Rattle.image.proofs.DiskLaws.{fits-present}
 use Rattle.image.proofs.MarkLaws.{mark-of-byte}
-use Rattle.image.proofs.TestLaws.{by-test}
-use Rattle.drive.specs.declared.Drive.{Drive}
 use Rattle.fdc.specs.declared.record.Controller.{Controller}
-use Rattle.fdc.specs.declared.record.Phase.{Phase}
 use Rattle.fdc.specs.declared.record.Phase.the-variants.{Starting, Working, Answering}
-use Rattle.fdc.specs.declared.ticks.Decision.{Decision}
 use Rattle.fdc.specs.Commands.{answeredOf}
 use Rattle.fdc.specs.Moves.{Calm, tickCount}
 use Rattle.fdc.specs.Record.{driveAt, withFifo, withPhase}
 use Rattle.fdc.specs.Registers.{motorIn}
-use Rattle.fdc.specs.Runs.{Call, powers, reads, writes, takes, gives, ticks, notes, after}
+use Rattle.fdc.specs.Runs.{Call, reads, ticks, after}
 use Rattle.fdc.specs.Ticks.{seenOf, settledOf, decidedOf, ruledOf, imageAfter}
 use Rattle.demands.specs.Acknowledged.{resultByte, resultId}
 use Rattle.demands.specs.DataError.{ReadsThere, Spins, DataErrorOrLate, DataErrorAt, DataError, DataErrorInTime}
-use Rattle.demands.specs.EndsInTime.{boundOf, EndsInTime}
+use Rattle.demands.specs.EndsInTime.{boundOf}
 use Rattle.demands.specs.History.{Sector, Begun, no-one, some-of, History, fresh, historyOf}
-use Rattle.demands.specs.InTime.{Late, LatePhase, AtTick, AtTicks}
-use Rattle.demands.specs.PowerCut.{
-  Aim,
-  Stands,
-  Spares,
-  AllFinished,
-  BegunHalf,
-  SparesAll,
-  SparesBegun,
-  LeftBy,
-  Writes,
-  headOf,
-  PowerCut,
-}
-use Rattle.demands.specs.Work.{Real, atWork, Its, imageBy, imageLeft, Handed, Alone, Anyhow}
+use Rattle.demands.specs.InTime.{Late, LatePhase, AtTicks}
+use Rattle.demands.specs.PowerCut.{Aim, Stands, Spares, AllFinished, BegunHalf, SparesAll, SparesBegun, LeftBy, Writes, headOf}
+use Rattle.demands.specs.Work.{Real, atWork, Its, imageLeft, Alone, Anyhow}
 use Rattle.demands.specs.Work as command
 use Rattle.demands.proofs.CallRules.{NoTick, Keeps}
-use Rattle.demands.specs.Quiet.{Proper, Quiet}
+use Rattle.demands.specs.Quiet.{Quiet}
+use Rattle.demands.proofs.CourseLaws.{same-geometry, tick-record, tick-head, tick-image, low-drive, ends-map, all-ticks, course-ends}
 use Rattle.demands.proofs.CutLaws.{marked-counts}
 use Rattle.demands.proofs.EndsLaws.{ends-in-time-quiet}
 use Rattle.demands.proofs.PowerCutLaws.{power-cut-quiet}
-use Rattle.demands.proofs.CallLaws.{tick-starts, tick-works, calm-keeps, after-tick}
+use Rattle.demands.proofs.CallLaws.{tick-starts, tick-works, calm-keeps}
 use Rattle.demands.proofs.QuietLaws.{quiet-real, quiet-after}
 use Rattle.demands.proofs.FollowLaws.{StartsBroken, OnStage, siteAt, differs, taskIn, Follow, goes, ends, follow-rule}
 use Rattle.demands.proofs.TickRules.{transfer-rule}
-
--- 01 Data commands: a header is as it was met
-pub same-geometry : (g : Geometry) → sameOf g g ≡ true
-unfolding sameOf
-same-geometry g =
-    simp (
-      eq-eqb (g .cylinders) (g .cylinders) refl,
-      eq-eqb (g .heads) (g .heads) refl,
-      eq-eqb (g .slots) (g .slots) refl,
-      eq-eqb (g .n) (g .n) refl,
-    )
-    (same (g .protect))
-  where
-    same : (t : Bool) → Bool·beq t t ≡ true
-    same true = refl
-    same false = refl
-
--- a tick's step leaves the heads
-settled-heads : (then : Then) (fifo : Fifo) (c : Controller) → settledOf then fifo c .drives ≡ c .drives
-unfolding settledOf withFifo withPhase answeredOf
-settled-heads (Ends verdict) fifo c = refl
-settled-heads (Works work) fifo c = refl
-
-module _ (a b : List ℕ) (drive : ℕ) (o : Step) (c : Controller) (e : ruledOf a b c ≡ decidedOf drive o c) where
-  pub tick-record : after (ticks a b) c ≡ settledOf (o .then) (o .fifo) c
-  unfolding decidedOf
-  tick-record = after-tick a b c ∙ ap (λ (d : Decision). d .controller) e
-
-  pub tick-head : driveAt drive (after (ticks a b) c .drives) .head ≡ driveAt drive (c .drives) .head
-  tick-head =
-      ap (λ (x : Controller). driveAt drive (x .drives) .head) tick-record
-      ∙ ap (λ (x : List Drive). driveAt drive x .head) (settled-heads (o .then) (o .fifo) c)
-
-  -- a tick that stores nothing leaves the image
-  pub tick-image : (k : ℕ) → o .effect ≡ Nothing → (img : List ℕ) → imageAfter k a b c img ≡ img
-  unfolding imageAfter decidedOf
-  tick-image k n img = rw (e, n) (by-test (eqb drive k) (λ (x : List ℕ). x ≡ img) img img (λ _. refl) (λ _. refl))
 
 -- the result: the data error with the sector's address; or ST1 10, and L, what a late byte stands for
 abbrev pub ErrorOr : Bool → Site → Id → Type 0 → Controller → Type 0
@@ -260,12 +206,12 @@ module _ (img : List ℕ) (g : Geometry) (disk : diskIn img ≡ Present g) (orde
         same-image o e on = tick-image a b′ (order .drive) o c e (order .drive) (no-effect o on) img
 
   -- a calm call that is no tick
-  follow-call : (call : Call) (c : Controller) → Follows order g head t transfer id other L c → atWork (c .phase) ≡ true
-      → NoTick call → Calm call → Follows order g head t transfer id other L (after call c)
-  follow-call call c f w n calm =
-      let k = calm-keeps call c (f .quiet) w n calm in
+  follow-call : (call : Call) (c : Controller) → Quiet c → atWork (c .phase) ≡ true → NoTick call → Calm call
+      → Follows order g head t transfer id other L c → Follows order g head t transfer id other L (after call c)
+  follow-call call c q w n calm f =
+      let k = calm-keeps call c q w n calm in
       record {
-        quiet = quiet-after call c (f .quiet) w;
+        quiet = quiet-after call c q w;
         head-is = k .heads (order .drive) low ∙ f .head-is;
         way = go k (f .way);
       }
@@ -275,40 +221,31 @@ module _ (img : List ℕ) (g : Geometry) (disk : diskIn img ≡ Present g) (orde
       go k (works stage p on) = works stage (k .phase ∙ p) on
       go k (over d) = absurd (false≢true (sym (ap atWork (d .waits)) ∙ w))
 
-  follow-any : (call : Call) (c : Controller) → Follows order g head t transfer id other L c
-      → motorIn (c .registers .dor) (order .drive) ≡ true → atWork (c .phase) ≡ true → Calm call
-      → Handed (order .drive) img call → AtTick (LateIs L) call c
-      → Follows order g head t transfer id other L (after call c) × (imageBy (order .drive) img call c ≡ img)
-  follow-any (powers head0 head1) c f m w calm lent late-is = absurd calm
-  follow-any (reads offset) c f m w calm lent late-is = (follow-call (reads offset) c f w tt calm, refl)
-  follow-any (writes offset byte) c f m w calm lent late-is = (follow-call (writes offset byte) c f w tt calm, refl)
-  follow-any (takes tc) c f m w calm lent late-is = (follow-call (takes tc) c f w tt calm, refl)
-  follow-any (gives byte tc) c f m w calm lent late-is = (follow-call (gives byte tc) c f w tt calm, refl)
-  follow-any (ticks a b′) c f m w calm lent late-is = follow-tick a b′ c f m lent late-is w
-  follow-any (notes drive) c f m w calm lent late-is = (follow-call (notes drive) c f w tt calm, refl)
-
   -- what is over has ended so
-  over-so : (c : Controller) → Follows order g head t transfer id other L c → atWork (c .phase) ≡ false → Over other site id L c
-  over-so c f a = go (f .way)
-    where
-      go : Way order g t transfer id other L c → Over other site id L c
-      go (starts p) = absurd (true≢false (sym (ap atWork p) ∙ a))
-      go (works stage p on) = absurd (true≢false (sym (ap atWork p) ∙ a))
-      go (over d) = d
+  over-so : (c : Controller) → Way order g t transfer id other L c → atWork (c .phase) ≡ false → Over other site id L c
+  over-so c (starts p) a = absurd (true≢false (sym (ap atWork p) ∙ a))
+  over-so c (works stage p on) a = absurd (true≢false (sym (ap atWork p) ∙ a))
+  over-so c (over d) a = d
+
+  -- with the image that stays as it is
+  abbrev Course : Controller → List ℕ → Type 0
+  Course c image = (image ≡ img) × Follows order g head t transfer id other L c
+
+  tick-course : (a b : List ℕ) (c : Controller) (image : List ℕ) → Quiet c → atWork (c .phase) ≡ true
+      → motorIn (c .registers .dor) (order .drive) ≡ true → pickOf (order .drive) a b ≡ image → LateIs L c
+      → Course c image → Course (after (ticks a b) c) (imageAfter (order .drive) a b c image)
+  tick-course a b c image q w motor lent late-is (same, f) =
+      let (f′, still) = follow-tick a b c f motor (lent ∙ same) late-is w in
+      (rw same still, f′)
 
   -- if it ends, it ends so
   pub ends-so : (calls : List Call) (c : Controller) → Follows order g head t transfer id other L c
       → Spins (order .drive) calls c → Alone (order .drive) img calls c → AtTicks (LateIs L) calls c
       → command.Ends Anyhow calls c → command.Ends (Over other site id L) calls c
-  unfolding command.Ends Spins Alone AtTicks
-  ends-so [] c f s l n (a, u) = (a, over-so c f a)
-  ends-so (call ∷ calls) c f s l n (inl (a, u)) = inl (a, over-so c f a)
-  ends-so (call ∷ calls) c f s l n (inr (w, rest)) =
-      let (calm, spins) = s .1 w in
-      let (lent, alone) = l w in
-      let (late-is, later) = n w in
-      let (f′, same) = follow-any call c f (s .0) w calm lent late-is in
-      inr (w, ends-so calls (after call c) f′ spins (rw same at alone) later rest)
+  ends-so calls c f spins alone late-is over-by =
+      course-ends (order .drive) (LateIs L) Course (Over other site id L)
+      (λ call e image q w n calm k. (k .0, follow-call call e q w n calm (k .1))) tick-course
+      (λ e image k. over-so e (k .1 .way)) calls c img (f .quiet) (refl, f) spins alone late-is over-by
 
 -- the image as left has the disk that it had: no sector of the command touches the header
 slot-behind : (g : Geometry) (cylinder side k : ℕ) → 13 ≤ offsetOf g cylinder side k
@@ -396,35 +333,6 @@ module _ (g : Geometry) (cylinder : ℕ) (transfer : Transfer) (aim : Aim) (old 
         on-cylinder = has .on-cylinder;
         on-track = omega (arith, has .on-track);
       }
-
-pub low-drive : (e : Controller) (order : Order) → Quiet e → e .phase ≡ Starting order → order .drive < 4
-low-drive e order q p = go (e .phase) p (q .proper)
-  where
-    go : (q : Phase) → q ≡ Starting order → Proper q → order .drive < 4
-    go q f h = (rw f at h) .0
-
--- another conclusion
-pub ends-map : (P Q : Controller → Type 0) → ((c : Controller) → P c → Q c) → (calls : List Call) (c : Controller)
-    → command.Ends P calls c → command.Ends Q calls c
-unfolding command.Ends
-ends-map P Q f [] c (a, x) = (a, f c x)
-ends-map P Q f (call ∷ calls) c (inl (a, x)) = inl (a, f c x)
-ends-map P Q f (call ∷ calls) c (inr (w, rest)) = inr (w, ends-map P Q f calls (after call c) rest)
-
--- without that premise a late byte stands for nothing
-any-late : (calls : List Call) (c : Controller) → AtTicks (LateIs (Unit {0})) calls c
-unfolding AtTicks
-any-late [] c = tt
-any-late (call ∷ calls) c = λ w. (of-call call, any-late calls (after call c))
-  where
-    of-call : (call : Call) → AtTick (LateIs (Unit {0})) call c
-    of-call (powers head0 head1) = tt
-    of-call (reads offset) = tt
-    of-call (writes offset byte) = tt
-    of-call (takes tc) = tt
-    of-call (gives byte tc) = tt
-    of-call (ticks a b) = λ l. tt
-    of-call (notes drive) = tt
 
 -- Demand 3, after the power cut
 module _ (c : Controller) (qc : Quiet c) (order : Order) (transfer : Transfer) (id : Id)
@@ -514,7 +422,7 @@ data-error-quiet c qc order transfer id w old g sound calls its alone at bytes q
       there = r .there;
       address = r .address;
     })
-    (inl (r .kind)) (Unit {0}) calls′ spins alone′ more (any-late calls′ e))
+    (inl (r .kind)) (Unit {0}) calls′ spins alone′ more (all-ticks _ (λ x l. tt) calls′ e))
 
 pub data-error-in-time : DataErrorInTime Real
 data-error-in-time c r order transfer id w old g sound calls its alone at bytes q e r′ =

@@ -4,6 +4,7 @@ pub mod BoundLaws
 pub mod CallLaws
 pub mod CallRules
 pub mod CountLaws
+pub mod CourseLaws
 pub mod CutLaws
 pub mod DataErrorLaws
 pub mod EndsLaws
@@ -16,6 +17,7 @@ pub mod LeftLaws
 pub mod OtherLaws
 pub mod PowerCutLaws
 pub mod QuietLaws
+pub mod ReadIdLaws
 pub mod ReadServedLaws
 pub mod ReadSucceedsLaws
 pub mod RequestLaws

@@ -52,7 +52,7 @@ use Rattle.demands.specs.Quiet.{Quiet}
 use Rattle.demands.specs.ReadSucceeds.{AsTaken, TellsAt, Serves, ReadServable}
 use Rattle.demands.specs.Work.{Real, atWork, Its, imageBy, imageLeft, Handed, Alone}
 use Rattle.demands.proofs.CallLaws.{tick-starts, tick-works, after-tick}
-use Rattle.demands.proofs.DataErrorLaws.{low-drive}
+use Rattle.demands.proofs.CourseLaws.{low-drive}
 use Rattle.demands.proofs.HandedOverLaws.{doneIn, Run, is-over, to-start, at-it, run-all}
 use Rattle.demands.proofs.HandedStream.{Flow, flows, ended}
 use Rattle.demands.proofs.QuietLaws.{quiet-real, quiet-after}

@@ -73,7 +73,7 @@ use Rattle.demands.proofs.CallLaws.{tick-starts, tick-works, call-rule,
 use Rattle.demands.proofs.CallRules.{NoTick, MayTake, FifoRule, same, took, gave, TakenRule, none-taken}
 use Rattle.demands.proofs.CallRules.{one-taken, Keeps, CallRule, cut-off, goes-on}
 use Rattle.demands.proofs.CutLaws.{marked-counts, matches-id, next-slot-below}
-use Rattle.demands.proofs.DataErrorLaws.{same-geometry, tick-record, tick-head, tick-image, low-drive}
+use Rattle.demands.proofs.CourseLaws.{same-geometry, tick-record, tick-head, tick-image, low-drive}
 use Rattle.demands.proofs.EndsLaws.{ends-in-time-quiet}
 use Rattle.demands.proofs.FollowLaws.{siteAt, data≢none, read≢write, mark-kind}
 use Rattle.demands.proofs.HandedOverLaws.{doneIn}

@@ -90,7 +90,8 @@ use Rattle.demands.specs.Work as command
 use Rattle.demands.proofs.CallLaws.{tick-starts, tick-works, call-rule, calm-keeps}
 use Rattle.demands.proofs.CallRules.{NoTick, same, took, gave, CallRule, cut-off, goes-on}
 use Rattle.demands.proofs.CutLaws.{next-slot-below, Busy, Half}
-use Rattle.demands.proofs.DataErrorLaws.{same-geometry, disk-left}
+use Rattle.demands.proofs.CourseLaws.{same-geometry}
+use Rattle.demands.proofs.DataErrorLaws.{disk-left}
 use Rattle.demands.proofs.EndsLaws.{ends-in-time-quiet}
 use Rattle.demands.proofs.FifoStream.{stream-within, held-more, held-none}
 use Rattle.demands.proofs.InTimeLaws.{prompt-in-time-quiet}
@@ -133,7 +134,7 @@ use Rattle.demands.proofs.TickRules.{
 }
 
 -- a mark of 1 to 5 is an ID
-counts-marked : (v : ℕ) → Counts v → marked (markOf v) ≡ true
+pub counts-marked : (v : ℕ) → Counts v → marked (markOf v) ≡ true
 unfolding markOf
 counts-marked zero c = absurd (omega arith)
 counts-marked (suc zero) c = refl

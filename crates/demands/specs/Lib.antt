@@ -6,6 +6,7 @@ pub mod History
 pub mod InTime
 pub mod PowerCut
 pub mod Quiet
+pub mod ReadIdGives
 pub mod ReadSucceeds
 pub mod Succeeds
 pub mod Work
