@@ -9,32 +9,11 @@ use mathlib.Core.List.{List, [], _∷_, _++_}
 use mathlib.Core.Path.{_≡_, refl}
 use lib.Dec.{ltb}
 use borrow.Author.Tests.{ltb-true}
-use Rattle.image.specs.Disk.{headerIn, geometryIn, diskIn}
-use Rattle.image.specs.Layout.{sizeOf, trackLength, lengthOf, trackAt, offsetOf, sameOf}
-use Rattle.image.specs.Mark.{markOf}
-use Rattle.chip.specs.Commands.{kindOf, entryOf, kindNumbered, knownBelow}
-use Rattle.chip.specs.Fifo.{filledOf, takenOf, openedOf, givenOf, drawnOf}
-use Rattle.chip.specs.Next.{advancedOf, nextOf}
-use Rattle.drive.specs.Step.{stepped, sought, recalibrated, seekStep, seekTick, recalibrateStep, recalibrateTick, tickIn, tickOf}
-use Rattle.engine.specs.First.{gateOf, givenId, movingOf, startOf, enteredOf, beginOf}
-use Rattle.sectors.specs.Follow.{followedOf, followOf, turnOf}
-use Rattle.engine.specs.Format.{formatEnd, formAwait, addressPut, addressOf, clearOn, formedOf, fillOf, clearOf, formOf}
-use Rattle.sectors.specs.Read.{overrun, readOn, readOf, drainedOf, drainOf}
-use Rattle.engine.specs.ReadId.{noIdOf, noIdHere, idHere, identifiedOf, identifyOf}
-use Rattle.sectors.specs.Result.{endOf, moveEnd, moveFails}
-use Rattle.sectors.specs.Search.{notFound, missedOf, readFound, dataFound, bareFound, lookedOf, searchOf}
-use Rattle.engine.specs.Step.{lostOf, stageOf, workOf, goOnOf}
-use Rattle.sectors.specs.Track.{hasTrack, staysOf, markPlace, dataPlace}
-use Rattle.sectors.specs.Write.{underrun, awaitOf, putOf, dryOf, writtenOf, storeOf}
-use Rattle.fdc.specs.Answer.{answerOf}
-use Rattle.fdc.specs.Calls.{portOf, readReg, writeReg, powerOn, readPort, writePort, dmaRead, dmaWrite, noteChange}
-use Rattle.fdc.specs.Commands.{ticksOf, answeredOf, saidOf, saidTwo, idledOf, specifyOf, configureOf, sensingOf, reporterOf, sensedOf, soughtOf, recalibratedOf, moveOrder, formatOrder, identifyOrder, startedOf, ranOf, runOf, gatheredOf, goesOn, begunOf}
-use Rattle.fdc.specs.Data.{resultTaken, readIn, readFifo, offeredOf, writeFifo, dmaReadOf, dmaWriteOf}
-use Rattle.fdc.specs.Record.{freshOf, withRegisters, withDrives, withFifo, withBytes, withPhase, withDrive, validOf}
-use Rattle.fdc.specs.Registers.{motorIn, busyBits, anyBusy, pendingIn, msrOf, intOf, drqOf, dirOf}
-use Rattle.fdc.specs.Reset.{resetAll, resetOf, reportAll, releasedBy, releasedOf, withDor, withTdr, withRate, wroteDor, wroteDsr}
-use Rattle.fdc.specs.Runs.{answerTo, runCalls}
-use Rattle.fdc.specs.Ticks.{seenOf, tickAll, steppedOf, st3Of, sensedAt, stillOf, settledOf, decidedOf, startOf as fdc·startOf, workOf as fdc·workOf, decideIn, decideOf, ruledOf, tickOf as fdc·tickOf, imageAfter}
+use Rattle.image.specs.Disk.{diskIn}
+use Rattle.chip.specs.Commands.{entryOf}
+use Rattle.fdc.specs.Commands.{ticksOf}
+use Rattle.fdc.specs.Runs.{runCalls}
+use Rattle.fdc.specs.Ticks.{seenOf}
 use Rattle.image.specs.declared.disk.Disk.the-variants.{Absent, Present}
 use Rattle.image.specs.Disk.{headerOf}
 use Rattle.image.specs.Examples.{disk, sector}
@@ -58,6 +37,7 @@ use Rattle.demands.specs.EndsInTime.{boundOf, Completes, byteNo}
 use Rattle.demands.specs.Work.{AllOfBytes, Real, atWork, imageBy, Alone, Ends, Anyhow}
 use Rattle.demands.proofs.EndsLaws.{ends-in-time, ends-in-one, senses-in-one}
 use Rattle.demands.proofs.StepsLaws.{seeks-on-time, recalibrates-on-time}
+use Rattle.runs.proofs.Open.{allOpen}
 
 -- one track with one sector; its field is 2 + 261 = 263 bytes long, 01 07
 abbrev small : List ℕ
@@ -174,21 +154,7 @@ pub record Met : Type 0 where
       ≡ true
 
 pub met : Met
-unfolding boundOf headerIn geometryIn diskIn sizeOf trackLength lengthOf trackAt offsetOf sameOf markOf kindOf entryOf
-    kindNumbered knownBelow filledOf takenOf openedOf givenOf drawnOf advancedOf nextOf stepped sought recalibrated
-    seekStep seekTick recalibrateStep recalibrateTick tickIn tickOf gateOf givenId movingOf startOf enteredOf
-    beginOf followedOf followOf turnOf formatEnd formAwait addressPut addressOf clearOn formedOf fillOf clearOf
-    formOf overrun readOn readOf drainedOf drainOf noIdOf noIdHere idHere identifiedOf identifyOf endOf moveEnd
-    moveFails notFound missedOf readFound dataFound bareFound lookedOf searchOf lostOf stageOf workOf goOnOf
-    hasTrack staysOf markPlace dataPlace underrun awaitOf putOf dryOf writtenOf storeOf answerOf portOf readReg
-    writeReg powerOn readPort writePort dmaRead dmaWrite noteChange answeredOf saidOf saidTwo idledOf specifyOf
-    configureOf sensingOf reporterOf sensedOf soughtOf recalibratedOf moveOrder formatOrder identifyOrder startedOf
-    ranOf runOf gatheredOf goesOn begunOf resultTaken readIn readFifo offeredOf writeFifo dmaReadOf dmaWriteOf
-    freshOf withRegisters withDrives withFifo withBytes withPhase withDrive validOf motorIn busyBits anyBusy
-    pendingIn msrOf intOf drqOf dirOf resetAll resetOf reportAll releasedBy releasedOf withDor withTdr withRate
-    wroteDor wroteDsr answerTo runCalls seenOf tickAll steppedOf st3Of sensedAt stillOf settledOf decidedOf
-    fdc·startOf fdc·workOf decideIn decideOf ruledOf fdc·tickOf imageAfter
-    hosted
+unfolding allOpen boundOf hosted
 met = record {
   disk-there = refl;
   bound = refl;
@@ -273,22 +239,15 @@ pub record StepsMet : Type 0 where
       driveAt 0 (after bare (after (writes 5 0) (given recalibrateBytes)) .drives) .report ≡ 0x20
 
 pub steps-met : StepsMet
-unfolding headerIn geometryIn diskIn sizeOf trackLength lengthOf trackAt offsetOf sameOf markOf kindOf entryOf
-    kindNumbered knownBelow filledOf takenOf openedOf givenOf drawnOf advancedOf nextOf stepped sought recalibrated
-    seekStep seekTick recalibrateStep recalibrateTick tickIn tickOf gateOf givenId movingOf startOf enteredOf
-    beginOf followedOf followOf turnOf formatEnd formAwait addressPut addressOf clearOn formedOf fillOf clearOf
-    formOf overrun readOn readOf drainedOf drainOf noIdOf noIdHere idHere identifiedOf identifyOf endOf moveEnd
-    moveFails notFound missedOf readFound dataFound bareFound lookedOf searchOf lostOf stageOf workOf goOnOf
-    hasTrack staysOf markPlace dataPlace underrun awaitOf putOf dryOf writtenOf storeOf answerOf portOf readReg
-    writeReg powerOn readPort writePort dmaRead dmaWrite noteChange answeredOf saidOf saidTwo idledOf specifyOf
-    configureOf sensingOf reporterOf sensedOf soughtOf recalibratedOf moveOrder formatOrder identifyOrder startedOf
-    ranOf runOf gatheredOf goesOn begunOf resultTaken readIn readFifo offeredOf writeFifo dmaReadOf dmaWriteOf
-    freshOf withRegisters withDrives withFifo withBytes withPhase withDrive validOf motorIn busyBits anyBusy
-    pendingIn msrOf intOf drqOf dirOf resetAll resetOf reportAll releasedBy releasedOf withDor withTdr withRate
-    wroteDor wroteDsr answerTo runCalls seenOf tickAll steppedOf st3Of sensedAt stillOf settledOf decidedOf
-    fdc·startOf fdc·workOf decideIn decideOf ruledOf fdc·tickOf imageAfter
+unfolding allOpen
 steps-met = record {
-  seek = record { real = given-real seekBytes refl; entry = entryOf 0x0F; gathers = refl; kind-is = refl; last = refl };
+  seek = record {
+    real = given-real seekBytes refl;
+    entry = entryOf 0x0F;
+    gathers = refl;
+    kind-is = refl;
+    last = refl;
+  };
   seek-drive = refl;
   seek-target = refl;
   seek-free = refl;

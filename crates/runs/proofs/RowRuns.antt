@@ -2,106 +2,26 @@
 -- Assumes nothing.
 use Prim.Native.Nat.{ℕ}
 use native.Mathlib.Omega.{arith}
-use mathlib.Core.Bool.{Bool, true, false, _&&_, true≢false, false≢true}
+use mathlib.Core.Bool.{true, false, true≢false, false≢true}
 use mathlib.Core.List.{List, [], _∷_, _++_}
 use mathlib.Core.Logic.{inl, inr}
 use mathlib.Core.Path.{_≡_, refl, ap}
-use lib.Dec.{ltb}
 use lib.ListN.{set}
-use borrow.Author.Tests.{ltb-true}
-use Rattle.image.proofs.TestLaws.{both}
-use Rattle.image.specs.Disk.{headerIn, geometryIn, diskIn}
-use Rattle.image.specs.Layout.{sizeOf, trackLength, lengthOf, trackAt, offsetOf, sameOf}
-use Rattle.image.specs.Mark.{markOf}
-use Rattle.chip.specs.Commands.{kindOf, entryOf, kindNumbered, knownBelow}
-use Rattle.chip.specs.Fifo.{filledOf, takenOf, openedOf, givenOf, drawnOf}
-use Rattle.chip.specs.Next.{advancedOf, nextOf}
-use Rattle.drive.specs.Step.{stepped, sought, recalibrated, seekStep, seekTick, recalibrateStep, recalibrateTick}
-use Rattle.drive.specs.Step.{tickIn, tickOf}
-use Rattle.engine.specs.First.{gateOf, givenId, movingOf, startOf, enteredOf, beginOf}
-use Rattle.sectors.specs.Follow.{followedOf, followOf, turnOf}
-use Rattle.engine.specs.Format.{formatEnd, formAwait, addressPut, addressOf, clearOn, formedOf, fillOf, clearOf, formOf}
-use Rattle.sectors.specs.Read.{overrun, readOn, readOf, drainedOf, drainOf}
-use Rattle.engine.specs.ReadId.{noIdOf, noIdHere, idHere, identifiedOf, identifyOf}
-use Rattle.sectors.specs.Result.{endOf, moveEnd, moveFails}
-use Rattle.sectors.specs.Search.{notFound, missedOf, readFound, dataFound, bareFound, lookedOf, searchOf}
-use Rattle.engine.specs.Step.{lostOf, stageOf, workOf, goOnOf}
-use Rattle.sectors.specs.Track.{hasTrack, staysOf, markPlace, dataPlace}
-use Rattle.sectors.specs.Write.{underrun, awaitOf, putOf, dryOf, writtenOf, storeOf}
-use Rattle.fdc.specs.Answer.{answerOf}
-use Rattle.fdc.specs.Calls.{portOf, readReg, writeReg, powerOn, readPort, writePort, dmaRead, dmaWrite, noteChange}
-use Rattle.fdc.specs.Commands.{answeredOf, saidOf, saidTwo, idledOf, specifyOf, configureOf, sensingOf, reporterOf}
-use Rattle.fdc.specs.Commands.{sensedOf, soughtOf, recalibratedOf, moveOrder, formatOrder, identifyOrder, startedOf}
-use Rattle.fdc.specs.Commands.{ranOf, runOf, gatheredOf, goesOn, begunOf}
-use Rattle.fdc.specs.Data.{resultTaken, readIn, readFifo, offeredOf, writeFifo, dmaReadOf, dmaWriteOf}
-use Rattle.fdc.specs.Record.{freshOf, withRegisters, withDrives, withFifo, withBytes, withPhase, withDrive, validOf}
-use Rattle.fdc.specs.Registers.{motorIn, busyBits, anyBusy, pendingIn, msrOf, intOf, drqOf, dirOf}
-use Rattle.fdc.specs.Reset.{resetAll, resetOf, reportAll, releasedBy, releasedOf, withDor, withTdr, withRate}
-use Rattle.fdc.specs.Reset.{wroteDor, wroteDsr}
-use Rattle.fdc.specs.Runs.{answerTo, runCalls}
-use Rattle.fdc.specs.Ticks.{seenOf, tickAll, steppedOf, st3Of, sensedAt, stillOf, settledOf, decidedOf}
-use Rattle.fdc.specs.Ticks.{startOf as fdc·startOf, workOf as fdc·workOf, decideIn, decideOf, ruledOf}
-use Rattle.fdc.specs.Ticks.{tickOf as fdc·tickOf, imageAfter}
-use Rattle.fdc.specs.Runs.{writes}
-use Rattle.fdc.specs.Runs.{Call, powers, reads, writes, takes, gives, ticks, notes}
+use Rattle.fdc.specs.Runs.{Call, reads, writes, takes, gives, ticks}
 use Rattle.image.specs.declared.slot.Id.{Id}
 use Rattle.answers.specs.Results.{drained, stored, skipped}
 use Rattle.runs.specs.RowRuns.{given, box, on, reading, writing, move, format, marks, RowRuns}
-use Rattle.demands.specs.Work.{OfBytes, AllOfBytes, Real}
+use Rattle.runs.proofs.Open.{allOpen}
+use Rattle.runs.proofs.Tests.{byteTests, all-of-tests}
+use Rattle.demands.specs.Work.{Real}
 use Rattle.answers.proofs.ResultLaws.{result-bytes}
-
--- the numbers of a list of calls are bytes, by a test that is computed
-abbrev byteTest : Call → Bool
-byteTest (powers head0 head1) = ltb head0 256 && ltb head1 256
-byteTest (reads offset) = ltb offset 256
-byteTest (writes offset byte) = ltb offset 256 && ltb byte 256
-byteTest (takes tc) = true
-byteTest (gives byte tc) = ltb byte 256
-byteTest (ticks a b) = true
-byteTest (notes drive) = ltb drive 256
-
-abbrev byteTests : List Call → Bool
-byteTests [] = true
-byteTests (call ∷ calls) = byteTest call && byteTests calls
-
-of-test : (call : Call) → byteTest call ≡ true → OfBytes call
-of-test (powers head0 head1) t =
-    let (p, q) = both (ltb head0 256) _ t in
-    (ltb-true head0 256 p, ltb-true head1 256 q)
-of-test (reads offset) t = ltb-true offset 256 t
-of-test (writes offset byte) t =
-    let (p, q) = both (ltb offset 256) _ t in
-    (ltb-true offset 256 p, ltb-true byte 256 q)
-of-test (takes tc) t = tt
-of-test (gives byte tc) t = ltb-true byte 256 t
-of-test (ticks a b) t = tt
-of-test (notes drive) t = ltb-true drive 256 t
-
-all-of-tests : (calls : List Call) → byteTests calls ≡ true → AllOfBytes calls
-all-of-tests [] t = tt
-all-of-tests (call ∷ calls) t =
-    let (p, q) = both (byteTest call) (byteTests calls) t in
-    (of-test call p, all-of-tests calls q)
 
 pub real-box : (head : ℕ) (calls : List Call) → byteTests calls ≡ true → Real (box head calls)
 real-box head calls t =
     record { head0 = head; head1 = 0; calls = calls; bytes = all-of-tests calls t; run = refl }
 
 pub row-runs : RowRuns
-unfolding headerIn geometryIn diskIn sizeOf trackLength lengthOf trackAt offsetOf sameOf markOf kindOf entryOf
-    kindNumbered knownBelow filledOf takenOf openedOf givenOf drawnOf advancedOf nextOf stepped sought recalibrated
-    seekStep seekTick recalibrateStep recalibrateTick tickIn tickOf gateOf givenId movingOf startOf enteredOf
-    beginOf followedOf followOf turnOf formatEnd formAwait addressPut addressOf clearOn formedOf fillOf clearOf
-    formOf overrun readOn readOf drainedOf drainOf noIdOf noIdHere idHere identifiedOf identifyOf endOf moveEnd
-    moveFails notFound missedOf readFound dataFound bareFound lookedOf searchOf lostOf stageOf workOf goOnOf
-    hasTrack staysOf markPlace dataPlace underrun awaitOf putOf dryOf writtenOf storeOf answerOf portOf readReg
-    writeReg powerOn readPort writePort dmaRead dmaWrite noteChange answeredOf saidOf saidTwo idledOf specifyOf
-    configureOf sensingOf reporterOf sensedOf soughtOf recalibratedOf moveOrder formatOrder identifyOrder startedOf
-    ranOf runOf gatheredOf goesOn begunOf resultTaken readIn readFifo offeredOf writeFifo dmaReadOf dmaWriteOf
-    freshOf withRegisters withDrives withFifo withBytes withPhase withDrive validOf motorIn busyBits anyBusy
-    pendingIn msrOf intOf drqOf dirOf resetAll resetOf reportAll releasedBy releasedOf withDor withTdr withRate
-    wroteDor wroteDsr answerTo runCalls seenOf tickAll steppedOf st3Of sensedAt stillOf settledOf decidedOf
-    fdc·startOf fdc·workOf decideIn decideOf ruledOf fdc·tickOf imageAfter
+unfolding allOpen
 row-runs = record {
   empty =
       result-bytes .first .empty _ _ [] []
@@ -283,4 +203,9 @@ row-runs = record {
       }) (omega arith);
   lost =
       result-bytes .lost _ [] [] .moves _ _ _ (real-box 0 (given (move 0x46 1 2) (on 1 (marks 1 1))) refl) refl tt;
+  lost-id =
+      result-bytes .lost _ [] [] .identifies _ _ _
+      (real-box 0 (given (0x4A ∷ 0 ∷ []) (on 1 (marks 1 1))) refl) refl tt;
+  lost-format =
+      result-bytes .lost _ [] [] .formats _ _ _ (real-box 0 (given (format 2) (on 1 (marks 1 1))) refl) refl tt;
 }

@@ -9,55 +9,33 @@ use mathlib.Core.Logic.{_⊎_, inl, inr}
 use mathlib.Core.Path.{_≡_, refl, sym, _∙_}
 use lib.Dec.{leb}
 use lib.ListN.{length}
-use borrow.Author.Needs.{needs}
 use borrow.Author.Tests.{leb-true, le-leb}
 use Rattle.image.proofs.TestLaws.{both, le-or-lt}
 use Rattle.image.specs.Disk.{headerIn, geometryIn, diskIn}
 use Rattle.image.specs.Examples.{disk, sample}
-use Rattle.image.specs.Layout.{sizeOf, trackLength, lengthOf, trackAt, offsetOf, sameOf}
-use Rattle.image.specs.Mark.{markOf}
-use Rattle.chip.specs.Commands.{kindOf, entryOf, kindNumbered, knownBelow}
-use Rattle.chip.specs.Fifo.{openedOf, givenOf, drawnOf}
-use Rattle.chip.specs.Next.{advancedOf, nextOf}
-use Rattle.drive.specs.Step.{tickIn, tickOf}
-use Rattle.engine.specs.First.{gateOf, givenId, movingOf, startOf, enteredOf, beginOf}
-use Rattle.engine.specs.Step.{lostOf, stageOf, workOf, goOnOf}
-use Rattle.sectors.specs.Follow.{followedOf, followOf}
-use Rattle.sectors.specs.Result.{endOf, moveEnd, moveFails}
-use Rattle.sectors.specs.Search.{notFound, missedOf, dataFound, lookedOf, searchOf}
-use Rattle.sectors.specs.Track.{hasTrack, staysOf, markPlace, dataPlace}
-use Rattle.sectors.specs.Write.{underrun, awaitOf, putOf, dryOf, writtenOf, storeOf}
+use Rattle.image.specs.Layout.{sizeOf, trackLength, lengthOf, trackAt, offsetOf}
+use Rattle.chip.specs.Next.{advancedOf}
 use Rattle.fdc.specs.declared.record.Controller.{Controller}
-use Rattle.fdc.specs.Answer.{answerOf}
-use Rattle.fdc.specs.Calls.{portOf, writeReg, powerOn, writePort, dmaWrite}
-use Rattle.fdc.specs.Commands.{answeredOf, idledOf, specifyOf, moveOrder, startedOf, ranOf, runOf, gatheredOf, goesOn, begunOf}
-use Rattle.fdc.specs.Data.{offeredOf, writeFifo, dmaWriteOf}
 use Rattle.fdc.specs.Moves.{AllCalm, tickCount}
-use Rattle.fdc.specs.Record.{freshOf, withRegisters, withDrives, withFifo, withBytes, withPhase, withDrive, validOf}
-use Rattle.fdc.specs.Registers.{motorIn, busyBits, anyBusy, pendingIn, msrOf, intOf, drqOf}
-use Rattle.fdc.specs.Reset.{resetAll, resetOf, reportAll, releasedBy, releasedOf, withDor, wroteDor}
-use Rattle.fdc.specs.Runs.{Call, powers, reads, writes, takes, gives, ticks, notes, answerTo, after, runCalls}
-use Rattle.fdc.specs.Ticks.{seenOf, tickAll, steppedOf, stillOf, settledOf, decidedOf, startOf as fdc·startOf, workOf as fdc·workOf, decideIn, decideOf, ruledOf, tickOf as fdc·tickOf, imageAfter}
+use Rattle.fdc.specs.Registers.{motorIn}
+use Rattle.fdc.specs.Runs.{Call, ticks, answerTo, after}
+use Rattle.fdc.specs.Ticks.{imageAfter}
 use Rattle.demands.specs.DataError.{Spins}
 use Rattle.demands.specs.EndsInTime.{boundOf}
 use Rattle.demands.specs.History.{History, fresh, historyBy}
-use Rattle.demands.specs.InTime.{AtTick, AtTicks, RequestOff, Prompt}
-use Rattle.demands.specs.PowerCut.{Writes, aimNo, headOf}
+use Rattle.demands.specs.InTime.{AtTicks, Prompt}
+use Rattle.demands.specs.PowerCut.{aimNo}
 use Rattle.demands.specs.Succeeds.{Writable, IsThere, AllThere, Fill, Noting, Tells, LastOne, Untold}
-use Rattle.demands.specs.Work.{Real, atWork, Alone}
+use Rattle.demands.specs.Work.{atWork}
 use Rattle.demands.proofs.InTimeLaws.{prompt-in-time}
 use Rattle.demands.proofs.SucceedsLaws.{write-succeeds, write-reaches-eot}
-use Rattle.runs.specs.CutExamples.{asked, writer, written, sectorOne, ordered, offer, restOf, served, down, full}
+use Rattle.runs.specs.CutExamples.{writer, written, sectorOne, ordered, offer, restOf, served, down, full}
 use Rattle.runs.specs.SucceedsExamples.{fromOne, fiveBytes, bothSectors, SucceedsExamples}
+use Rattle.runs.proofs.CutExamples.{served-alone, accepts, reached, head-zero}
+use Rattle.runs.proofs.Open.{allOpen}
+use Rattle.runs.proofs.Tests.{offAt, not-off, off-at}
 
--- each tick is handed the image as the tick before left it; no call is a reset; there are so many ticks
-served-alone : (dma : Bool) (host : List ℕ) (n : ℕ) (c : Controller) (img : List ℕ)
-    → Alone 0 img (served dma host n c img) c
-unfolding Alone
-served-alone dma host zero c img = tt
-served-alone true host (suc n) c img = λ w. (tt, λ w′. (refl, served-alone true _ n _ _))
-served-alone false host (suc n) c img = λ w. (tt, λ w′. (refl, served-alone false _ n _ _))
-
+-- no call is a reset; there are so many ticks
 served-calm : (dma : Bool) (host : List ℕ) (n : ℕ) (c : Controller) (img : List ℕ) → AllCalm (served dma host n c img)
 served-calm dma host zero c img = tt
 served-calm true host (suc n) c img = (tt, (tt, served-calm true _ n _ _))
@@ -81,34 +59,12 @@ served-ticks false host (suc n) c img =
     )
 
 -- the premises over the calls, as one test
-abbrev tickOff : Call → Controller → Bool
-tickOff (powers head0 head1) c = true
-tickOff (reads offset) c = true
-tickOff (writes offset byte) c = true
-tickOff (takes tc) c = true
-tickOff (gives byte tc) c = true
-tickOff (ticks a b) c = not (c .fifo .asks)
-tickOff (notes drive) c = true
-
-not-on : (a : Bool) → not a ≡ true → a ≡ false
-not-on true e = absurd (false≢true e)
-not-on false e = refl
-
-off-of : (call : Call) (c : Controller) → tickOff call c ≡ true → AtTick RequestOff call c
-off-of (powers head0 head1) c e = tt
-off-of (reads offset) c e = tt
-off-of (writes offset byte) c e = tt
-off-of (takes tc) c e = tt
-off-of (gives byte tc) c e = tt
-off-of (ticks a b) c e = not-on (c .fifo .asks) e
-off-of (notes drive) c e = tt
-
 unfoldable fine : (History → Bool) → List Call → Controller → History → Bool
 fine test [] c h = motorIn (c .registers .dor) 0
 fine test (call ∷ calls) c h =
     motorIn (c .registers .dor) 0
     && cond (atWork (c .phase))
-    (tickOff call c && test (historyBy call c h) && fine test calls (after call c) (historyBy call c h)) true
+    (offAt call c && test (historyBy call c h) && fine test calls (after call c) (historyBy call c h)) true
 
 module _ (test : History → Bool) (P : History → Type 0) (means : (h : History) → test h ≡ true → P h) where
   record Met (calls : List Call) (c : Controller) (h : History) : Type 0 where
@@ -126,31 +82,31 @@ module _ (test : History → Bool) (P : History → Type 0) (means : (h : Histor
       λ w. fine-met calls (after call c) (historyBy call c h) (now w rest .2) (calm .1) in
       record {
         spins = (motor, λ w. (calm .0, later w .spins));
-        prompt = λ w. (off-of call c (now w rest .0), later w .prompt);
+        prompt = λ w. (off-at call c (now w rest .0), later w .prompt);
         noting = λ w. (means (historyBy call c h) (now w rest .1), later w .noting);
       }
     where
       now : atWork (c .phase) ≡ true
           → cond (atWork (c .phase))
-          (tickOff call c && test (historyBy call c h) && fine test calls (after call c) (historyBy call c h)) true
+          (offAt call c && test (historyBy call c h) && fine test calls (after call c) (historyBy call c h)) true
           ≡ true
-          → (tickOff call c ≡ true) × (test (historyBy call c h) ≡ true)
+          → (offAt call c ≡ true) × (test (historyBy call c h) ≡ true)
           × (fine test calls (after call c) (historyBy call c h) ≡ true)
       now w r =
-          let (this, rest) = both (tickOff call c && test (historyBy call c h)) _ (rw w at r) in
-          let (off, says) = both (tickOff call c) _ this in
+          let (this, rest) = both (offAt call c && test (historyBy call c h)) _ (rw w at r) in
+          let (off, says) = both (offAt call c) _ this in
           (off, says, rest)
 
-beq-same : (a b : Bool) → Bool·beq a b ≡ true → a ≡ b
+pub beq-same : (a b : Bool) → Bool·beq a b ≡ true → a ≡ b
 beq-same true true e = refl
 beq-same true false e = absurd (false≢true e)
 beq-same false true e = absurd (false≢true e)
 beq-same false false e = refl
 
-abbrev tellsTest : ℕ → History → Bool
+abbrev pub tellsTest : ℕ → History → Bool
 tellsTest bytes h = Bool·beq (h .told) (leb bytes (length (h .host)))
 
-tells-met : (bytes : ℕ) (h : History) → tellsTest bytes h ≡ true → Tells bytes h
+pub tells-met : (bytes : ℕ) (h : History) → tellsTest bytes h ≡ true → Tells bytes h
 tells-met bytes h e =
     let q = beq-same (h .told) (leb bytes (length (h .host))) e in
     (λ x. leb-true _ _ (sym q ∙ x), λ l. q ∙ le-leb _ _ l)
@@ -162,26 +118,6 @@ untoldTest h = not (h .told)
 mounts : Writable (disk 1 1 2 1) (sample 2)
 unfolding headerIn geometryIn diskIn sizeOf trackLength lengthOf
 mounts = record { present = refl; unprotected = refl }
-
-reached : (dma : Bool) → Real (writer dma)
-reached true = record { head0 = 0; head1 = 0; calls = asked true; bytes = search needs; run = refl }
-reached false = record { head0 = 0; head1 = 0; calls = asked false; bytes = search needs; run = refl }
-
-accepts : (dma : Bool) → Writes (writer dma) ordered written sectorOne
-unfolding kindOf entryOf kindNumbered knownBelow answerOf portOf writeReg powerOn writePort answeredOf idledOf
-    specifyOf moveOrder startedOf ranOf runOf gatheredOf goesOn begunOf offeredOf writeFifo freshOf withRegisters
-    withDrives withFifo withBytes withPhase withDrive validOf busyBits anyBusy msrOf resetAll resetOf reportAll
-    releasedBy releasedOf withDor wroteDor answerTo runCalls
-accepts true = record { accepted = refl; moves = refl; writes = refl }
-accepts false = record { accepted = refl; moves = refl; writes = refl }
-
-head-zero : (dma : Bool) → headOf ordered (writer dma) ≡ 0
-unfolding kindOf entryOf kindNumbered knownBelow answerOf portOf writeReg powerOn writePort answeredOf idledOf
-    specifyOf moveOrder startedOf ranOf runOf gatheredOf goesOn begunOf offeredOf writeFifo freshOf withRegisters
-    withDrives withFifo withBytes withPhase withDrive validOf busyBits anyBusy msrOf resetAll resetOf reportAll
-    releasedBy releasedOf withDor wroteDor answerTo runCalls
-head-zero true = refl
-head-zero false = refl
 
 -- its sectors: slot k is number k
 first-there : IsThere (disk 1 1 2 1) (sample 2) 0 (aimNo written fromOne 0)
@@ -251,22 +187,14 @@ record Tested : Type 0 where
   both-full : fine untoldTest bothSectors (writer false) fresh ≡ true
 
 tested : Tested
-unfolding headerIn geometryIn diskIn sizeOf trackLength lengthOf trackAt offsetOf sameOf markOf kindOf entryOf
-    kindNumbered knownBelow answerOf portOf writeReg powerOn writePort answeredOf idledOf specifyOf moveOrder
-    startedOf ranOf runOf gatheredOf goesOn begunOf offeredOf writeFifo freshOf withRegisters withDrives withFifo
-    withBytes withPhase withDrive validOf busyBits anyBusy msrOf resetAll resetOf reportAll releasedBy releasedOf
-    withDor wroteDor answerTo runCalls openedOf givenOf drawnOf advancedOf nextOf tickIn tickOf gateOf givenId
-    movingOf startOf enteredOf beginOf followedOf followOf endOf moveEnd moveFails notFound missedOf dataFound
-    lookedOf searchOf lostOf stageOf workOf goOnOf hasTrack staysOf markPlace dataPlace underrun awaitOf putOf dryOf
-    writtenOf storeOf dmaWrite dmaWriteOf motorIn pendingIn intOf drqOf seenOf tickAll steppedOf stillOf settledOf
-    decidedOf fdc·startOf fdc·workOf decideIn decideOf ruledOf fdc·tickOf imageAfter historyBy fine
+unfolding allOpen fine
 tested = record { five = refl; both-full = refl }
 
 pub succeeds-examples : SucceedsExamples
 succeeds-examples =
     let five = fine-met (tellsTest 5) (Tells 5) (tells-met 5) fiveBytes (writer true) fresh (tested .five)
     (served-calm true (down 5) 1980 (writer true) (sample 2)) in
-    let filled = fine-met untoldTest Untold (λ h e. not-on (h .told) e) bothSectors (writer false) fresh
+    let filled = fine-met untoldTest Untold (λ h e. not-off (h .told) e) bothSectors (writer false) fresh
     (tested .both-full) (served-calm false (full ++ down 3) 1980 (writer false) (sample 2)) in
     record {
       by-dma = write-succeeds (writer true) (reached true) ordered written sectorOne (accepts true) (sample 2)

@@ -3,67 +3,144 @@
 -- Assumes nothing.
 use Prim.Native.Nat.{ℕ}
 use mathlib.Core.Bool.{Bool, true, false}
-use mathlib.Core.List.{List, _++_}
-use mathlib.Core.Path.{_≡_}
-use lib.ListN.{length}
-use Rattle.fdc.specs.declared.record.Controller.{Controller}
-use Rattle.fdc.specs.declared.record.Phase.{Phase}
-use Rattle.fdc.specs.declared.record.Phase.the-variants.{Answering}
-use Rattle.fdc.specs.Runs.{runCalls}
-use Rattle.demands.specs.Acknowledged.{doneCount, resultByte}
-use Rattle.demands.specs.History.{Begun, no-one, History, fresh, historyOf}
-use Rattle.runs.specs.CutExamples.{writer, cutCalls, down, full}
+use mathlib.Core.List.{List, [], _∷_, _++_}
+use lib.ListN.{take, drop, replicate}
+use Rattle.image.specs.Examples.{disk, sample}
+use Rattle.sectors.specs.declared.order.Pass.the-variants.{Write}
+use Rattle.sectors.specs.declared.order.Transfer.{Transfer}
+use Rattle.fdc.specs.Examples.{command, bare}
+use Rattle.fdc.specs.Runs.{Call, gives}
+use Rattle.demands.specs.History.{no-one, some-of}
+use Rattle.runs.specs.CutExamples.{down, full}
+use Rattle.runs.specs.Host.{moving, idle, poured, times, trackOf, imageOf, quad}
+use Rattle.runs.specs.Whole.{Given, Outcome, waiting, WriteRun, Served}
 
-abbrev pub ended : Bool → List ℕ → ℕ → Controller
-ended dma host n = runCalls (cutCalls dma host n) (writer dma)
+abbrev pub writing : Bool → Bool → ℕ → Transfer
+writing deleted mt eot = record { pass = Write; deleted = deleted; mt = mt; sk = false; eot = eot }
 
-abbrev pub wrote : Bool → List ℕ → ℕ → History
-wrote dma host n = historyOf (cutCalls dma host n) (writer dma) fresh
+-- a byte after each tick
+abbrev pub fed : List ℕ → List Call
+fed [] = []
+fed (byte ∷ bytes) = bare ∷ gives byte false ∷ fed bytes
 
--- at the end: the phase, ST0, ST1, R; TC, the bytes handed over, the sectors finished, the one begun
-pub record Outcome : Type 0 where
-  pub phase : Phase
-  pub st0 : ℕ
-  pub st1 : ℕ
-  pub r : ℕ
-  pub told : Bool
-  pub bytes : ℕ
-  pub done : ℕ
-  pub begun : Begun
-
-abbrev pub outcomeOf : Controller → History → Outcome
-outcomeOf c h =
+-- FIFO off, DMA, drive 0: sector 1 of 1 and 2, N 1, EOT 2
+abbrev pub plain : List Call → Given
+plain does =
     record {
-      phase = c .phase;
-      st0 = resultByte 0 c;
-      st1 = resultByte 1 c;
-      r = resultByte 5 c;
-      told = h .told;
-      bytes = length (h .host);
-      done = doneCount h;
-      begun = h .begun;
-    }
-
-abbrev pub Ended : Bool → List ℕ → ℕ → Outcome → Type 0
-Ended dma host n o = outcomeOf (ended dma host n) (wrote dma host n) ≡ o
-
-abbrev pub waiting : ℕ → ℕ → ℕ → Bool → ℕ → ℕ → Begun → Outcome
-waiting st0 st1 r told bytes done begun =
-    record {
-      phase = Answering true;
-      st0 = st0;
-      st1 = st1;
-      r = r;
-      told = told;
-      bytes = bytes;
-      done = done;
-      begun = begun;
+      head0 = 0;
+      head1 = 0;
+      dor = 0x1C;
+      config = 0x20;
+      spec = 0x02;
+      bytes = 0x45 ∷ 0 ∷ 0 ∷ 0 ∷ 1 ∷ 1 ∷ 2 ∷ 0x1B ∷ 0xFF ∷ [];
+      order = moving 0 0 (writing false false 2) 0 0 1 1;
+      disk = disk 1 1 2 1;
+      img = sample 2;
+      does = does;
     }
 
 -- TC with the fifth byte: sector 1 is safe, R 2
-abbrev pub Safe : Type 0
-Safe = Ended true (down 5) 260 (waiting 0x00 0x00 2 true 5 1 no-one)
+abbrev pub safe : Given
+safe = plain (bare ∷ gives 4 false ∷ idle 2 ++ (fed (3 ∷ 2 ∷ 1 ∷ []) ++ (bare ∷ gives 0 true ∷ idle 253)))
+
+abbrev pub safeEnd : Outcome
+safeEnd =
+    waiting (0x00 ∷ 0x00 ∷ 0x00 ∷ 0 ∷ 0 ∷ 2 ∷ 1 ∷ []) true (down 5)
+    (record { at = 13; bytes = down 5 ++ replicate 251 0 } ∷ []) no-one
 
 -- both sectors full, no TC: ST1 80, and byte 513 was handed over and is nowhere
-abbrev pub PastEot : Type 0
-PastEot = Ended true (full ++ down 3) 519 (waiting 0x40 0x80 1 false 513 2 no-one)
+abbrev pub more : List ℕ
+more = full ++ (7 ∷ [])
+
+abbrev pub pastEot : Given
+pastEot =
+    plain
+    (bare ∷ poured false (take 1 more)
+    ++ (idle 2 ++ (fed (take 256 (drop 1 more)) ++ (idle 3 ++ (fed (drop 257 more) ++ idle 1)))))
+
+abbrev pub pastEotEnd : Outcome
+pastEotEnd =
+    waiting (0x40 ∷ 0x80 ∷ 0x00 ∷ 1 ∷ 0 ∷ 1 ∷ 1 ∷ []) false more
+    (record { at = 274; bytes = down 256 } ∷ record { at = 13; bytes = down 256 } ∷ []) no-one
+
+-- FIFO on with FIFOTHR 7, DMA, drive 1, cylinder 1, MT: the sector of side 0, then four bytes on side 1, TC with the
+-- last. The host fills the FIFO each time it is asked
+abbrev pub turning : Given
+turning =
+    record {
+      head0 = 0;
+      head1 = 1;
+      dor = 0x2D;
+      config = 0x07;
+      spec = 0x02;
+      bytes = 0xC5 ∷ 0x01 ∷ 1 ∷ 0 ∷ 1 ∷ 1 ∷ 1 ∷ 0x1B ∷ 0xFF ∷ [];
+      order = moving 1 0 (writing false true 1) 1 0 1 1;
+      disk = disk 2 2 1 1;
+      img = quad 1 1;
+      does =
+          bare ∷ poured false (down 16)
+          ++ (idle 2
+          ++ (times 30 (idle 8 ++ poured false (down 8)) ++ (idle 8 ++ (poured true (down 4) ++ idle 269))));
+    }
+
+abbrev pub turningEnd : Outcome
+turningEnd =
+    waiting (0x05 ∷ 0x00 ∷ 0x00 ∷ 2 ∷ 0 ∷ 1 ∷ 1 ∷ []) true (down 16 ++ (times 30 (down 8) ++ down 4))
+    (record { at = 811; bytes = down 4 ++ replicate 252 0 }
+    ∷ record { at = 545; bytes = down 16 ++ times 30 (down 8) }
+    ∷ [])
+    no-one
+
+-- FIFO on with FIFOTHR 15, DMA, side 1, N 2, Write Deleted: TC with byte 20
+abbrev pub deleting : Given
+deleting =
+    record {
+      head0 = 0;
+      head1 = 0;
+      dor = 0x1C;
+      config = 0x0F;
+      spec = 0x02;
+      bytes = 0x49 ∷ 0x04 ∷ 0 ∷ 1 ∷ 1 ∷ 2 ∷ 9 ∷ 0x1B ∷ 0xFF ∷ [];
+      order = moving 0 1 (writing true false 9) 0 1 1 2;
+      disk = disk 1 2 1 2;
+      img = imageOf (disk 1 2 1 2) (trackOf 2 0 0 1 ++ trackOf 2 0 1 1);
+      does =
+          bare ∷ poured false (down 16) ++ (idle 2 ++ (fed (3 ∷ 2 ∷ 1 ∷ []) ++ (bare ∷ gives 0 true ∷ idle 509)));
+    }
+
+abbrev pub deletingEnd : Outcome
+deletingEnd =
+    waiting (0x04 ∷ 0x00 ∷ 0x00 ∷ 0 ∷ 1 ∷ 2 ∷ 2 ∷ []) true (down 16 ++ down 4)
+    (record { at = 535; bytes = down 16 ++ (down 4 ++ replicate 492 0) } ∷ []) no-one
+
+-- FIFO on with FIFOTHR 15, non-DMA, cylinder 1, side 1, N 2: the host stops after five bytes, and the sector stays
+-- begun
+abbrev pub short : Given
+short =
+    record {
+      head0 = 1;
+      head1 = 0;
+      dor = 0x1C;
+      config = 0x0F;
+      spec = 0x03;
+      bytes = 0x45 ∷ 0x04 ∷ 1 ∷ 1 ∷ 1 ∷ 2 ∷ 1 ∷ 0x1B ∷ 0xFF ∷ [];
+      order = moving 0 1 (writing false false 1) 1 1 1 2;
+      disk = disk 2 2 1 2;
+      img = quad 2 1;
+      does = bare ∷ command (down 5) ++ idle 8;
+    }
+
+abbrev pub shortEnd : Outcome
+shortEnd =
+    waiting (0x44 ∷ 0x10 ∷ 0x00 ∷ 1 ∷ 1 ∷ 1 ∷ 2 ∷ []) false (down 5) [] (some-of 1579 (down 5))
+
+pub record AckExamples : Type 0 where
+  pub safe-run : WriteRun safe safeEnd
+  pub safe-served : Served safe
+  pub past-eot-run : WriteRun pastEot pastEotEnd
+  pub past-eot-served : Served pastEot
+  pub turning-run : WriteRun turning turningEnd
+  pub turning-served : Served turning
+  pub deleting-run : WriteRun deleting deletingEnd
+  pub deleting-served : Served deleting
+  pub short-run : WriteRun short shortEnd

@@ -23,7 +23,7 @@ use Rattle.fdc.specs.Runs.{Call, writes, gives, ticks, answerTo, after, runCall
 use Rattle.fdc.specs.Ticks.{imageAfter}
 use Rattle.demands.specs.History.{no-one, some-of, History, fresh, taken, historyOf}
 use Rattle.demands.specs.PowerCut.{Writes}
-use Rattle.demands.specs.Work.{Its, Alone}
+use Rattle.demands.specs.Work.{Real, Its, Alone}
 
 -- motor 0 on; Specify, whose last bit ND is off for DMA; Write Data of sector 1, C 0 H 0 N 1, EOT 2
 abbrev pub specify : Bool → List ℕ
@@ -74,6 +74,7 @@ full = down 256 ++ down 256
 
 -- the premises are met, and this is what the calls did
 pub record CutExample (dma : Bool) (host : List ℕ) (n : ℕ) (h : History) : Type 0 where
+  pub real : Real (writer dma)
   pub accepted : Writes (writer dma) ordered written sectorOne
   pub mounted : diskIn (sample 2) ≡ Present (disk 1 1 2 1)
   pub its : Its (cutCalls dma host n) (writer dma)

@@ -25,7 +25,7 @@ use Rattle.demands.specs.EndsInTime.{boundOf}
 use Rattle.demands.specs.History.{some-of, fresh, historyOf}
 use Rattle.demands.specs.InTime.{Prompt}
 use Rattle.demands.specs.PowerCut.{Writes}
-use Rattle.demands.specs.Work.{Its, Alone, imageLeft, Ends}
+use Rattle.demands.specs.Work.{Real, Its, Alone, imageLeft, Ends}
 
 -- the write's calls
 abbrev pub wrote : List Call
@@ -63,11 +63,13 @@ readCalls = taking 1980 reader leftImage
 
 pub record DataErrorExample : Type 0 where
   -- the premises
+  pub writer-real : Real (writer true)
   pub writer-writes : Writes (writer true) ordered written sectorOne
   pub sound : Sound (disk 1 1 2 1) (sample 2)
   pub its : Its wrote (writer true)
   pub alone : Alone 0 (sample 2) wrote (writer true)
   pub begun : historyOf wrote (writer true) fresh .begun ≡ some-of 274 (take 10 (drop 256 full))
+  pub reader-real : Real reader
   pub reader-reads : ReadsIt reader readOrder read sectorTwo (disk 1 1 2 1) written (sample 2) 274
   pub spins : Spins 0 readCalls reader
   pub alone-too : Alone 0 leftImage readCalls reader

@@ -1,84 +1,131 @@
--- Read commands to their end, call by call: the premises of `HandedOver` are met, with TC, past EOT and with SK.
+-- Read commands to their end, call by call: the premises of `HandedOver` are met, with TC, past EOT, with SK and MT,
+-- of the other kind, and late.
 -- Assumes nothing.
 use Prim.Native.Nat.{ℕ}
 use mathlib.Core.Bool.{Bool, true, false}
-use mathlib.Core.List.{List, [], _∷_, _++_}
-use mathlib.Core.Path.{_≡_}
-use lib.ListN.{length, getD, set}
-use Rattle.fdc.specs.declared.record.Controller.{Controller}
-use Rattle.fdc.specs.declared.record.Phase.{Phase}
-use Rattle.fdc.specs.declared.record.Phase.the-variants.{Answering}
-use Rattle.fdc.specs.Runs.{Call, takes, ticks, runCalls}
-use Rattle.demands.specs.Acknowledged.{resultByte}
-use Rattle.demands.specs.HandedOver.{Taken, untaken, takenOver}
-use Rattle.runs.specs.RowRuns.{given, box, on, reading, move, marks}
+use mathlib.Core.List.{[], _∷_, _++_}
+use lib.ListN.{take}
+use Rattle.image.specs.Examples.{disk}
+use Rattle.sectors.specs.declared.order.Pass.the-variants.{Read}
+use Rattle.sectors.specs.declared.order.Transfer.{Transfer}
+use Rattle.fdc.specs.Examples.{bare}
+use Rattle.fdc.specs.Runs.{reads, takes}
+use Rattle.demands.specs.History.{no-one}
+use Rattle.runs.specs.Host.{moving, idle, taken, fetched, times, contents, quad, double}
+use Rattle.runs.specs.Whole.{Given, Outcome, waiting, ReadRun, Served}
 
--- the phase, ST0, ST1, ST2, R; TC, the bytes taken, the first two of them
-pub record Outcome : Type 0 where
-  pub phase : Phase
-  pub st0 : ℕ
-  pub st1 : ℕ
-  pub st2 : ℕ
-  pub r : ℕ
-  pub told : Bool
-  pub bytes : ℕ
-  pub first : ℕ
-  pub second : ℕ
+abbrev pub reading : Bool → Bool → Bool → ℕ → Transfer
+reading deleted mt sk eot = record { pass = Read; deleted = deleted; mt = mt; sk = sk; eot = eot }
 
-abbrev pub outcomeOf : Controller → Taken → Outcome
-outcomeOf c t =
+-- FIFO off, DMA: sector 1 to its end at EOT, no TC
+abbrev pub pastEot : Given
+pastEot =
     record {
-      phase = c .phase;
-      st0 = resultByte 0 c;
-      st1 = resultByte 1 c;
-      st2 = resultByte 2 c;
-      r = resultByte 5 c;
-      told = t .told;
-      bytes = length (t .got);
-      first = getD (t .got) 0 0;
-      second = getD (t .got) 1 0;
+      head0 = 0;
+      head1 = 0;
+      dor = 0x1C;
+      config = 0x20;
+      spec = 0x02;
+      bytes = 0x46 ∷ 0 ∷ 0 ∷ 0 ∷ 1 ∷ 1 ∷ 1 ∷ 0x1B ∷ 0xFF ∷ [];
+      order = moving 0 0 (reading false false false 1) 0 0 1 1;
+      disk = disk 1 1 2 1;
+      img = double 1;
+      does = idle 2 ++ (times 256 (bare ∷ takes false ∷ []) ++ idle 1);
     }
 
-abbrev pub Ended : List ℕ → List Call → Outcome → Type 0
-Ended bytes calls o =
-    outcomeOf (runCalls calls (box 0 (given bytes []))) (takenOver calls (box 0 (given bytes [])) untaken) ≡ o
+abbrev pub pastEotEnd : Outcome
+pastEotEnd =
+    waiting (0x40 ∷ 0x80 ∷ 0x00 ∷ 1 ∷ 0 ∷ 1 ∷ 1 ∷ []) false (contents 1 0x11) [] no-one
 
-abbrev pub waiting : ℕ → ℕ → ℕ → ℕ → Bool → ℕ → ℕ → ℕ → Outcome
-waiting st0 st1 st2 r told bytes first second =
+-- FIFO on with FIFOTHR 15, DMA, drive 1, cylinder 1, MT and SK: the sector of side 0 is deleted and skipped; of that
+-- of side 1 five bytes are taken, TC with the last
+abbrev pub turning : Given
+turning =
     record {
-      phase = Answering true;
-      st0 = st0;
-      st1 = st1;
-      st2 = st2;
-      r = r;
-      told = told;
-      bytes = bytes;
-      first = first;
-      second = second;
+      head0 = 0;
+      head1 = 1;
+      dor = 0x2D;
+      config = 0x0F;
+      spec = 0x02;
+      bytes = 0xE6 ∷ 0x01 ∷ 1 ∷ 0 ∷ 1 ∷ 1 ∷ 1 ∷ 0x1B ∷ 0xFF ∷ [];
+      order = moving 1 0 (reading false true true 1) 1 0 1 1;
+      disk = disk 2 2 1 1;
+      img = quad 1 2;
+      does = idle 4 ++ (times 4 (bare ∷ takes false ∷ []) ++ (bare ∷ takes true ∷ idle 252));
     }
 
--- the disk, with two bytes in each sector
-abbrev pub bytesIn : ℕ → ℕ → List ℕ
-bytesIn first second = set (set (set (set (marks first second) 18 0x11) 19 0x12) 279 0x21) 280 0x22
+abbrev pub turningEnd : Outcome
+turningEnd =
+    waiting (0x05 ∷ 0x00 ∷ 0x40 ∷ 2 ∷ 0 ∷ 1 ∷ 1 ∷ []) true (take 5 (contents 1 0x11)) [] no-one
 
--- TC with the second byte
-abbrev pub two : List ℕ → List Call
-two img = ticks img [] ∷ takes false ∷ ticks img [] ∷ takes true ∷ on 255 img
+-- FIFO on with FIFOTHR 7, non-DMA, cylinder 1, side 1, N 2: all 512 bytes, and past EOT
+abbrev pub whole : Given
+whole =
+    record {
+      head0 = 1;
+      head1 = 0;
+      dor = 0x1C;
+      config = 0x07;
+      spec = 0x03;
+      bytes = 0x46 ∷ 0x04 ∷ 1 ∷ 1 ∷ 1 ∷ 2 ∷ 1 ∷ 0x1B ∷ 0xFF ∷ [];
+      order = moving 0 1 (reading false false false 1) 1 1 1 2;
+      disk = disk 2 2 1 2;
+      img = quad 2 1;
+      does = idle 2 ++ (times 64 (idle 8 ++ fetched 8) ++ idle 1);
+    }
 
--- sector 1: R 2
-abbrev pub ByTc : Type 0
-ByTc =
-    Ended (move 0x46 1 2) (on 2 (bytesIn 1 1) ++ two (bytesIn 1 1))
-    (waiting 0x00 0x00 0x00 2 true 2 0x11 0x12)
+abbrev pub wholeEnd : Outcome
+wholeEnd =
+    waiting (0x44 ∷ 0x80 ∷ 0x00 ∷ 2 ∷ 1 ∷ 1 ∷ 2 ∷ []) false (contents 2 0x11) [] no-one
 
--- sector 1 to its end at EOT
-abbrev pub PastEot : Type 0
-PastEot =
-    Ended (move 0x46 1 1) (on 2 (bytesIn 1 1) ++ (reading 256 (bytesIn 1 1) ++ on 1 (bytesIn 1 1)))
-    (waiting 0x40 0x80 0x00 1 false 256 0x11 0x12)
+-- FIFO on with FIFOTHR 7, DMA, drive 1, cylinder 1, Read Deleted: the host stops after three bytes, and the FIFO fills
+abbrev pub late : Given
+late =
+    record {
+      head0 = 0;
+      head1 = 1;
+      dor = 0x2D;
+      config = 0x07;
+      spec = 0x02;
+      bytes = 0x4C ∷ 0x01 ∷ 1 ∷ 0 ∷ 1 ∷ 1 ∷ 1 ∷ 0x1B ∷ 0xFF ∷ [];
+      order = moving 1 0 (reading true false false 1) 1 0 1 1;
+      disk = disk 2 2 1 1;
+      img = quad 1 2;
+      does = idle 2 ++ (idle 8 ++ (taken 3 ++ idle 12));
+    }
 
--- SK: sector 1 is deleted, so the bytes are those of sector 2
-abbrev pub Skips : Type 0
-Skips =
-    Ended (move 0x66 1 2) (on 3 (bytesIn 2 1) ++ two (bytesIn 2 1))
-    (waiting 0x00 0x00 0x40 1 true 2 0x21 0x22)
+abbrev pub lateEnd : Outcome
+lateEnd =
+    waiting (0x41 ∷ 0x10 ∷ 0x00 ∷ 1 ∷ 0 ∷ 1 ∷ 1 ∷ []) false (take 3 (contents 1 0x10)) [] no-one
+
+-- FIFO on with FIFOTHR 15, non-DMA, drive 1: a deleted sector without SK, served in time: IC 00 with ST2 40, the
+-- address as it was
+abbrev pub other : Given
+other =
+    record {
+      head0 = 0;
+      head1 = 0;
+      dor = 0x2D;
+      config = 0x0F;
+      spec = 0x03;
+      bytes = 0x46 ∷ 0x01 ∷ 0 ∷ 0 ∷ 1 ∷ 1 ∷ 2 ∷ 0x1B ∷ 0xFF ∷ [];
+      order = moving 1 0 (reading false false false 2) 0 0 1 1;
+      disk = disk 1 1 2 1;
+      img = double 2;
+      does = idle 2 ++ (times 256 (bare ∷ reads 5 ∷ []) ++ idle 1);
+    }
+
+abbrev pub otherEnd : Outcome
+otherEnd =
+    waiting (0x01 ∷ 0x00 ∷ 0x40 ∷ 0 ∷ 0 ∷ 1 ∷ 1 ∷ []) false (contents 1 0x11) [] no-one
+
+pub record HandedExamples : Type 0 where
+  pub past-eot-run : ReadRun pastEot pastEotEnd
+  pub past-eot-served : Served pastEot
+  pub turning-run : ReadRun turning turningEnd
+  pub turning-served : Served turning
+  pub whole-run : ReadRun whole wholeEnd
+  pub whole-served : Served whole
+  pub late-run : ReadRun late lateEnd
+  pub other-run : ReadRun other otherEnd
+  pub other-served : Served other

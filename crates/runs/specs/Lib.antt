@@ -1,7 +1,14 @@
 pub mod AckExamples
+pub mod AnswerRuns
 pub mod CutExamples
 pub mod DataErrorExamples
+pub mod FormatExamples
 pub mod HandedExamples
+pub mod Host
+pub mod PromptRuns
 pub mod RegisterRuns
 pub mod RowRuns
 pub mod SucceedsExamples
+pub mod SuccessRuns
+pub mod WaitsRuns
+pub mod Whole

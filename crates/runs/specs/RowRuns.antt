@@ -113,3 +113,5 @@ pub record RowRuns : Type 0 where
       0x00 0x00 0x00 (chr 0 0 1)
   -- 01 Data commands: emptied later
   pub lost : Ends 0 (given (move 0x46 1 2) (on 1 (marks 1 1))) [] 0x40 0x01 0x00 (chr 0 0 1)
+  pub lost-id : Ends 0 (given (0x4A ∷ 0 ∷ []) (on 1 (marks 1 1))) [] 0x40 0x01 0x00 zeros
+  pub lost-format : Ends 0 (given (format 2) (on 1 (marks 1 1))) [] 0x40 0x01 0x00 (chr 0 0 0)

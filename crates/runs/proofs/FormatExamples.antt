@@ -1,0 +1,16 @@
+-- A whole Format (specs/FormatExamples), by computation: one equation.
+-- Assumes nothing.
+use native.Mathlib.Omega.{arith}
+use mathlib.Core.List.{[], _∷_}
+use mathlib.Core.Path.{_≡_, refl}
+use Rattle.runs.specs.FormatExamples.{one, result, left, Formatted}
+use Rattle.runs.proofs.Open.{allOpen}
+use Rattle.runs.proofs.WholeLaws.{goes, formedIn, forms, format-run}
+
+one-goes : formedIn one ≡ forms result (0 ∷ 0 ∷ 7 ∷ 1 ∷ []) left
+unfolding allOpen goes
+one-goes = refl
+
+pub formatted : Formatted
+unfolding allOpen
+formatted = format-run one _ _ _ _ refl refl refl refl (omega arith) one-goes

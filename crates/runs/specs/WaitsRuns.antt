@@ -1,0 +1,34 @@
+-- A Read, a Write, a Read ID and a Format that end with a result: the premises of `ResultWaits`.
+-- Assumes nothing.
+use Prim.Native.Nat.{ℕ}
+use mathlib.Core.Bool.{true, false}
+use mathlib.Core.List.{List, [], _∷_, _++_}
+use mathlib.Core.Path.{_≡_}
+use lib.ListN.{set}
+use Rattle.sectors.specs.declared.order.Order.{Order}
+use Rattle.fdc.specs.declared.record.Controller.{Controller}
+use Rattle.fdc.specs.declared.record.Phase.the-variants.{Starting, Answering}
+use Rattle.fdc.specs.Moves.{AllCalm}
+use Rattle.fdc.specs.Runs.{Call, runCalls}
+use Rattle.demands.specs.Work.{Real, atWork, Its}
+use Rattle.runs.specs.RowRuns.{box, given, move, format, marks, on, writing}
+
+-- the premises; so the result waits
+pub record WaitsRun (c : Controller) (calls : List Call) : Type 0 where
+  pub real : Real c
+  pub order : Order
+  pub accepted : c .phase ≡ Starting order
+  pub its : Its calls c
+  pub calm : AllCalm calls
+  pub over : atWork (runCalls calls c .phase) ≡ false
+  pub waits : runCalls calls c .phase ≡ Answering true
+
+abbrev pub Waits : List ℕ → List Call → Type 0
+Waits bytes calls = WaitsRun (box 0 (given bytes [])) calls
+
+pub record WaitsRuns : Type 0 where
+  -- no such sector; a protected disk; the first ID; a byte missing
+  pub read : Waits (move 0x46 3 4) (on 5 (marks 1 1))
+  pub write : Waits (move 0x45 1 2) (on 1 (set (marks 1 1) 7 1))
+  pub read-id : Waits (0x4A ∷ 0 ∷ []) (on 2 (marks 1 1))
+  pub formats : Waits (format 2) (on 1 (marks 1 1) ++ (writing 1 (marks 1 1) ++ on 2 (marks 1 1)))
