@@ -63,7 +63,9 @@ uint32_t bel_note_change(uint8_t *record, size_t len, uint8_t drive);
 
 /* Up to n ticks, stopping after the first that changes INT or DRQ, so that a loop pays for the record's bytes once and
  * not at every tick. Low half: the last tick's word; with n 0 value 0 and the record's lines. High half: the ticks
- * made, 0 where the record is refused. */
+ * made, 0 where the record is refused. The stores of a run are made in the order of its ticks, as the proof has it; in
+ * which order they reach memory inside one call is the compiler's part and the hardware's, so a firmware that must know
+ * after each store calls bel_tick. */
 uint64_t bel_ticks(uint8_t *record, size_t len, uint8_t *image0, size_t len0, uint8_t *image1, size_t len1, uint32_t n);
 
 #define BEL_LAST(word) ((uint32_t)((word)&0xFFFFFFFFu))

@@ -1,0 +1,9 @@
+pub mod StepShapeLaws
+pub mod TypedLaws
+pub mod AnyBytesLaws
+pub mod Examples
+pub mod FirmwareLaws
+pub mod InsideLaws
+pub mod ListLaws
+pub mod RanLaws
+pub mod RefusalKeepsLaws
