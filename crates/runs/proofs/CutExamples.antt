@@ -3,10 +3,11 @@
 use Prim.Native.Nat.{ℕ, zero, suc}
 use mathlib.Core.Bool.{Bool, true, false}
 use mathlib.Core.List.{List, []}
-use mathlib.Core.Path.{_≡_, refl, subst}
+use mathlib.Core.Path.{_≡_, refl, ap, subst}
 use Rattle.image.specs.Disk.{headerIn, geometryIn, diskIn}
 use Rattle.image.specs.Layout.{sizeOf, trackLength, lengthOf}
 use Rattle.fdc.specs.declared.record.Controller.{Controller}
+use Rattle.fdc.specs.Runs.{Call}
 use borrow.Author.Needs.{needs}
 use Rattle.image.specs.declared.disk.Disk.the-variants.{Present}
 use Rattle.image.specs.Examples.{disk, sample}
@@ -51,27 +52,34 @@ pub reached : (dma : Bool) → Real (writer dma)
 reached true = record { head0 = 0; head1 = 0; calls = asked true; bytes = search needs; run = refl }
 reached false = record { head0 = 0; head1 = 0; calls = asked false; bytes = search needs; run = refl }
 
+-- what the calls did, and that they are the command's: one equation, so that the calls are worked out once
+record Cut : Type 0 where
+  work : Bool
+  history : History
+
+abbrev cutBy : List Call → Controller → Cut
+cutBy calls c = record { work = allWork calls c; history = historyOf calls c fresh }
+
 module _ (dma : Bool) (host : List ℕ) (n : ℕ) (h : History) where
-  example : allWork (cutCalls dma host n) (writer dma) ≡ true → historyOf (cutCalls dma host n) (writer dma) fresh ≡ h
-      → CutExample dma host n h
-  example w e =
+  example : cutBy (cutCalls dma host n) (writer dma) ≡ record { work = true; history = h } → CutExample dma host n h
+  example e =
       record {
         real = reached dma;
         accepted = accepts dma;
         mounted = mounts;
-        its = work-its (cutCalls dma host n) (writer dma) w;
+        its = work-its (cutCalls dma host n) (writer dma) (ap (λ (x : Cut). x .work) e);
         alone = served-alone dma host n (writer dma) (sample 2);
-        history = e;
+        history = ap (λ (x : Cut). x .history) e;
       }
 
 pub cut-examples : CutExamples
 unfolding allOpen allWork
 cut-examples =
     record {
-      by-dma = example true full 102 _ refl refl;
-      by-port = example false full 102 _ refl refl;
-      in-second = example true full 272 _ refl refl;
-      with-tc = example true (down 5) 260 _ refl refl;
+      by-dma = example true full 102 _ refl;
+      by-port = example false full 102 _ refl;
+      in-second = example true full 272 _ refl;
+      with-tc = example true (down 5) 260 _ refl;
     }
 
 pub head-zero : (dma : Bool) → headOf ordered (writer dma) ≡ 0

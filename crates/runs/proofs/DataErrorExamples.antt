@@ -3,7 +3,7 @@
 use Prim.Native.Nat.{ℕ, zero, suc, _≤_}
 use native.Mathlib.Omega.{arith}
 use borrow.Author.Needs.{needs}
-use mathlib.Core.Bool.{true, false}
+use mathlib.Core.Bool.{Bool, true, false}
 use mathlib.Core.List.{List, [], _∷_}
 use mathlib.Core.Logic.{inl}
 use mathlib.Core.Path.{_≡_, refl, ap, _∙_}
@@ -110,13 +110,22 @@ enough : boundOf (disk 1 1 2 1) ≤ tickCount readCalls
 unfolding boundOf sizeOf
 enough = rw (taking-ticks 1980 reader leftImage) (omega arith)
 
-result : runCalls (taking 260 reader leftImage) reader .bytes .results ≡ 0x40 ∷ 0x20 ∷ 0x20 ∷ 0 ∷ 0 ∷ 2 ∷ 1 ∷ []
-unfolding allOpen
-result = refl
+-- the result, and each tick's request: one equation, so that the image that the cut left is worked out once
+record Data : Type 0 where
+  results : List ℕ
+  off : Bool
+
+abbrev readIn : Controller → List ℕ → Data
+readIn c img =
+    record { results = runCalls (taking 260 c img) c .bytes .results; off = allOff (taking 1980 c img) c }
+
+read-goes : readIn reader leftImage
+    ≡ record { results = 0x40 ∷ 0x20 ∷ 0x20 ∷ 0 ∷ 0 ∷ 2 ∷ 1 ∷ []; off = true }
+unfolding allOpen allOff
+read-goes = refl
 
 all-off : allOff readCalls reader ≡ true
-unfolding allOpen allOff
-all-off = refl
+all-off = ap (λ (d : Data). d .off) read-goes
 
 -- the conclusion
 ended : Real (writer true) → Writes (writer true) ordered written sectorOne → Its wrote (writer true)
@@ -147,7 +156,7 @@ data-error-example =
       alone-too = alone;
       enough = enough;
       ends = ended (cut .real) (cut .accepted) (cut .its) (cut .alone) begun spins alone;
-      result = result;
+      result = ap (λ (d : Data). d .results) read-goes;
       prompt = off-prompt readCalls reader all-off;
       ends-exactly =
           data-error-in-time (writer true) (cut .real) ordered written sectorOne (cut .accepted) (sample 2)

@@ -91,7 +91,7 @@ turningEnd =
     ∷ [])
     no-one
 
--- FIFO on with FIFOTHR 15, DMA, side 1, N 2, Write Deleted: TC with byte 20
+-- FIFO on with FIFOTHR 15, DMA, N 2, Write Deleted: TC with byte 20
 abbrev pub deleting : Given
 deleting =
     record {
@@ -100,18 +100,18 @@ deleting =
       dor = 0x1C;
       config = 0x0F;
       spec = 0x02;
-      bytes = 0x49 ∷ 0x04 ∷ 0 ∷ 1 ∷ 1 ∷ 2 ∷ 9 ∷ 0x1B ∷ 0xFF ∷ [];
-      order = moving 0 1 (writing true false 9) 0 1 1 2;
-      disk = disk 1 2 1 2;
-      img = imageOf (disk 1 2 1 2) (trackOf 2 0 0 1 ++ trackOf 2 0 1 1);
+      bytes = 0x49 ∷ 0x00 ∷ 0 ∷ 0 ∷ 1 ∷ 2 ∷ 9 ∷ 0x1B ∷ 0xFF ∷ [];
+      order = moving 0 0 (writing true false 9) 0 0 1 2;
+      disk = disk 1 1 1 2;
+      img = imageOf (disk 1 1 1 2) (trackOf 2 0 0 1);
       does =
           bare ∷ poured false (down 16) ++ (idle 2 ++ (fed (3 ∷ 2 ∷ 1 ∷ []) ++ (bare ∷ gives 0 true ∷ idle 509)));
     }
 
 abbrev pub deletingEnd : Outcome
 deletingEnd =
-    waiting (0x04 ∷ 0x00 ∷ 0x00 ∷ 0 ∷ 1 ∷ 2 ∷ 2 ∷ []) true (down 16 ++ down 4)
-    (record { at = 535; bytes = down 16 ++ (down 4 ++ replicate 492 0) } ∷ []) no-one
+    waiting (0x00 ∷ 0x00 ∷ 0x00 ∷ 0 ∷ 0 ∷ 2 ∷ 2 ∷ []) true (down 16 ++ down 4)
+    (record { at = 13; bytes = down 16 ++ (down 4 ++ replicate 492 0) } ∷ []) no-one
 
 -- FIFO on with FIFOTHR 15, non-DMA, cylinder 1, side 1, N 2: the host stops after five bytes, and the sector stays
 -- begun

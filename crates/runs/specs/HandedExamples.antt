@@ -11,7 +11,7 @@ use Rattle.sectors.specs.declared.order.Transfer.{Transfer}
 use Rattle.fdc.specs.Examples.{bare}
 use Rattle.fdc.specs.Runs.{reads, takes}
 use Rattle.demands.specs.History.{no-one}
-use Rattle.runs.specs.Host.{moving, idle, taken, fetched, times, contents, quad, double}
+use Rattle.runs.specs.Host.{moving, idle, taken, fetched, times, contents, trackOf, imageOf, quad, double}
 use Rattle.runs.specs.Whole.{Given, Outcome, waiting, ReadRun, Served}
 
 abbrev pub reading : Bool → Bool → Bool → ℕ → Transfer
@@ -58,25 +58,25 @@ abbrev pub turningEnd : Outcome
 turningEnd =
     waiting (0x05 ∷ 0x00 ∷ 0x40 ∷ 2 ∷ 0 ∷ 1 ∷ 1 ∷ []) true (take 5 (contents 1 0x11)) [] no-one
 
--- FIFO on with FIFOTHR 7, non-DMA, cylinder 1, side 1, N 2: all 512 bytes, and past EOT
+-- FIFO on with FIFOTHR 7, non-DMA, side 1, N 2: all 512 bytes, and past EOT
 abbrev pub whole : Given
 whole =
     record {
-      head0 = 1;
+      head0 = 0;
       head1 = 0;
       dor = 0x1C;
       config = 0x07;
       spec = 0x03;
-      bytes = 0x46 ∷ 0x04 ∷ 1 ∷ 1 ∷ 1 ∷ 2 ∷ 1 ∷ 0x1B ∷ 0xFF ∷ [];
-      order = moving 0 1 (reading false false false 1) 1 1 1 2;
-      disk = disk 2 2 1 2;
-      img = quad 2 1;
+      bytes = 0x46 ∷ 0x04 ∷ 0 ∷ 1 ∷ 1 ∷ 2 ∷ 1 ∷ 0x1B ∷ 0xFF ∷ [];
+      order = moving 0 1 (reading false false false 1) 0 1 1 2;
+      disk = disk 1 2 1 2;
+      img = imageOf (disk 1 2 1 2) (trackOf 2 0 0 1 ++ trackOf 2 0 1 1);
       does = idle 2 ++ (times 64 (idle 8 ++ fetched 8) ++ idle 1);
     }
 
 abbrev pub wholeEnd : Outcome
 wholeEnd =
-    waiting (0x44 ∷ 0x80 ∷ 0x00 ∷ 2 ∷ 1 ∷ 1 ∷ 2 ∷ []) false (contents 2 0x11) [] no-one
+    waiting (0x44 ∷ 0x80 ∷ 0x00 ∷ 1 ∷ 1 ∷ 1 ∷ 2 ∷ []) false (contents 2 0x01) [] no-one
 
 -- FIFO on with FIFOTHR 7, DMA, drive 1, cylinder 1, Read Deleted: the host stops after three bytes, and the FIFO fills
 abbrev pub late : Given
