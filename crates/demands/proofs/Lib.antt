@@ -12,8 +12,10 @@ pub mod FifoStream
 pub mod FollowLaws
 pub mod HandedOverLaws
 pub mod HandedStream
+pub mod HeldLaws
 pub mod InTimeLaws
 pub mod LeftLaws
+pub mod LoadsBackLaws
 pub mod OtherLaws
 pub mod PowerCutLaws
 pub mod QuietLaws
@@ -21,7 +23,9 @@ pub mod ReadIdLaws
 pub mod ReadServedLaws
 pub mod ReadSucceedsLaws
 pub mod RequestLaws
+pub mod RoundTripLaws
 pub mod SearchLaws
+pub mod SoundLaws
 pub mod StepsLaws
 pub mod SucceedsLaws
 pub mod TickRules

@@ -2,11 +2,15 @@ pub mod Acknowledged
 pub mod DataError
 pub mod EndsInTime
 pub mod HandedOver
+pub mod Held
 pub mod History
 pub mod InTime
+pub mod LoadsBack
 pub mod PowerCut
 pub mod Quiet
 pub mod ReadIdGives
 pub mod ReadSucceeds
+pub mod RoundTrip
+pub mod StaysSound
 pub mod Succeeds
 pub mod Work

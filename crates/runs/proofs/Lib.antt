@@ -14,5 +14,6 @@ pub mod SpinLaws
 pub mod SucceedsExamples
 pub mod SuccessRuns
 pub mod Tests
+pub mod TripExamples
 pub mod WaitsRuns
 pub mod WholeLaws

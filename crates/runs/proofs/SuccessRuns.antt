@@ -92,7 +92,7 @@ unfolding allOpen allTake
 eot-takes = refl
 
 -- all heads stand at 0
-heads : (headOf (wrote .order) (askedBy wrote) ≡ 0) × (headOf (back .order) (askedBy back) ≡ 0)
+pub heads : (headOf (wrote .order) (askedBy wrote) ≡ 0) × (headOf (back .order) (askedBy back) ≡ 0)
     × (headOf (pastEot .order) (askedBy pastEot) ≡ 0)
 unfolding allOpen
 heads = (refl, refl, refl)
@@ -210,11 +210,11 @@ eot-long =
     long-run pastEot 1721 (handed-examples .past-eot-served)
     (ap (λ (o : Outcome). o .phase) (handed-examples .past-eot-run .outcome)) (omega arith) refl refl (omega arith)
 
-wrote-accepts : Writes (askedBy wrote) (wrote .order) (writing false false 2) sectorOne
+pub wrote-accepts : Writes (askedBy wrote) (wrote .order) (writing false false 2) sectorOne
 unfolding allOpen
 wrote-accepts = record { accepted = refl; moves = refl; writes = refl }
 
-back-accepts : Reads (askedBy back) (back .order) (reading false false false 2) sectorOne
+pub back-accepts : Reads (askedBy back) (back .order) (reading false false false 2) sectorOne
 unfolding allOpen
 back-accepts = record { accepted = refl; moves = refl; reads = refl }
 

@@ -10,5 +10,6 @@ pub mod RegisterRuns
 pub mod RowRuns
 pub mod SucceedsExamples
 pub mod SuccessRuns
+pub mod TripExamples
 pub mod WaitsRuns
 pub mod Whole
