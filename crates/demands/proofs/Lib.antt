@@ -10,6 +10,12 @@ pub mod DataErrorLaws
 pub mod EndsLaws
 pub mod FifoStream
 pub mod FollowLaws
+pub mod FormatLaws
+pub mod FormatRules
+pub mod FormatSlotsLaws
+pub mod FormatStaysLaws
+pub mod FormatSucceedsLaws
+pub mod FormatTimeLaws
 pub mod HandedOverLaws
 pub mod HandedStream
 pub mod HeldLaws
@@ -24,6 +30,7 @@ pub mod ReadServedLaws
 pub mod ReadSucceedsLaws
 pub mod RequestLaws
 pub mod RoundTripLaws
+pub mod ScriptLaws
 pub mod SearchLaws
 pub mod SoundLaws
 pub mod StepsLaws

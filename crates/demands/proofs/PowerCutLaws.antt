@@ -82,7 +82,7 @@ given-some : (efifo tc : Bool) (byte : ℕ) (f : Fifo) → fullOf efifo f ≡ fa
 unfolding givenOf
 given-some efifo tc byte f e = rw e (omega arith)
 
-idle≢answering : (loud : Bool) → Idle ≡ Answering loud → ⊥
+pub idle≢answering : (loud : Bool) → Idle ≡ Answering loud → ⊥
 idle≢answering loud e = let z : _≡_ {A = ℕ} 0 1 = cc in omega arith
 
 -- only a tick changes an image

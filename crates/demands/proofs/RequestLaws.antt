@@ -12,7 +12,7 @@ use Rattle.image.proofs.TestLaws.{by-test, both}
 use Rattle.chip.specs.declared.fifo.Fifo.{Fifo}
 use Rattle.chip.specs.Fifo.{capacityOf, readLevel, writeLevel, fullOf, emptied, openedOf, takenOf, givenOf, filledOf, drawnOf}
 
-or-off : (a b : Bool) → (a || b) ≡ false → (a ≡ false) × (b ≡ false)
+pub or-off : (a b : Bool) → (a || b) ≡ false → (a ≡ false) × (b ≡ false)
 or-off true b e = absurd (true≢false e)
 or-off false b e = (refl, e)
 

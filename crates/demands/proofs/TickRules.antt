@@ -199,7 +199,7 @@ module _ (slot : ℕ) (site : Site) (task : Task) (fifo : Fifo) (effect : Effect
       }) refl))
       (λ r. steps t (eqb-false _ _ r) refl))
 
-pos-ne : (n : ℕ) → (n ≡ 0 → ⊥) → 0 < n
+pub pos-ne : (n : ℕ) → (n ≡ 0 → ⊥) → 0 < n
 pos-ne zero h = absurd (h refl)
 pos-ne (suc n) h = omega arith
 

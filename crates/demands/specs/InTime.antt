@@ -1,5 +1,5 @@
--- Served in time (01 Read, Write: ST1 10; 01 FIFO and request). A byte is late by document 01's own causes, and by no
--- other; a host that serves each request before the next tick is never late.
+-- Served in time (01 Read, Write, Format: ST1 10; 01 FIFO and request). A byte is late by document 01's own causes,
+-- and by no other; a host that serves each request before the next tick is never late.
 -- Assumes nothing.
 use Prim.Native.Nat.{_<_, _≤_}
 use mathlib.Core.Bool.{Bool, true, false}
@@ -11,6 +11,8 @@ use Rattle.image.specs.declared.slot.Id.{Id}
 use Rattle.sectors.specs.declared.order.Job.the-variants.{Move}
 use Rattle.sectors.specs.declared.order.Order.{Order}
 use Rattle.sectors.specs.declared.order.Transfer.{Transfer}
+use Rattle.sectors.specs.declared.work.Form.{Form}
+use Rattle.sectors.specs.declared.work.Form.the-variants as form
 use Rattle.sectors.specs.declared.work.Site.{Site}
 use Rattle.sectors.specs.declared.work.Stage.{Stage}
 use Rattle.sectors.specs.declared.work.Stage.the-variants.{Searching, Turning, Reading, Draining, Awaiting, Storing}
@@ -34,10 +36,17 @@ Late efifo site fifo (Draining sector looks) = (0 < fifo .count) × (63 ≤ look
 Late efifo site fifo (Awaiting slot wait) = (fifo .count ≡ 0) × (63 ≤ wait)
 Late efifo site fifo (Storing slot done) = (done < passBytes site) × (fifo .count ≡ 0) × (fifo .tc ≡ false)
 
+-- 01 Format: wait as for Write; a byte of the four missing
+abbrev pub LateForm : Fifo → Form → Type 0
+LateForm fifo (form.Awaiting slot wait) = (fifo .count ≡ 0) × (63 ≤ wait)
+LateForm fifo (form.Addressing slot k) = fifo .count ≡ 0
+LateForm fifo (form.Filling slot done) = ⊥
+LateForm fifo (form.Clearing slot) = ⊥
+
 abbrev pub LateWork : Bool → Fifo → Work → Type 0
 LateWork efifo fifo (Identifying site slot passes) = ⊥
 LateWork efifo fifo (Moving site task stage) = Late efifo site fifo stage
-LateWork efifo fifo (Formatting site plan form) = ⊥
+LateWork efifo fifo (Formatting site plan form) = LateForm fifo form
 
 abbrev pub LatePhase : Bool → Fifo → Phase → Type 0
 LatePhase efifo fifo Idle = ⊥

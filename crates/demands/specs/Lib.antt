@@ -1,6 +1,9 @@
 pub mod Acknowledged
 pub mod DataError
 pub mod EndsInTime
+pub mod FormatScript
+pub mod FormatSlots
+pub mod FormatSucceeds
 pub mod HandedOver
 pub mod Held
 pub mod History
