@@ -16,18 +16,9 @@ use Rattle.image.specs.Sound.{markIn, NoTwins}
 use Rattle.image.proofs.LayoutLaws.{slots-share-nothing}
 use Rattle.image.proofs.TestLaws.{le-or-lt}
 use Rattle.sectors.specs.declared.order.Transfer.{Transfer}
-use Rattle.demands.specs.Held.{
-  SoundHolds,
-  RoundTripSound,
-  HeldAtOnce,
-  HeldByWrite,
-  TrackStays,
-  OnlyTrack,
-  HeldByTrack,
-  HeldByOthers,
-}
+use Rattle.demands.specs.Held.{SoundHolds, RoundTripSound, HeldAtOnce, HeldByWrite, TrackStays, OnlyTrack, HeldByTrack, HeldByOthers, HeldByFormat}
 use Rattle.demands.specs.History.{Sector, Begun, no-one, some-of, History}
-use Rattle.demands.specs.PowerCut.{Aim, aimNo, Stands, AllFinished, BegunHalf, begunOnes, LeftBy}
+use Rattle.demands.specs.PowerCut.{Aim, aimNo, Stands, AllFinished, BegunHalf, begunOnes, LeftBy, headOf}
 use Rattle.demands.specs.Quiet.{Quiet}
 use Rattle.demands.specs.RoundTrip.{
   withProtect,
@@ -53,6 +44,8 @@ use Rattle.demands.proofs.RoundTripLaws.{
   quiet-write,
 }
 use Rattle.demands.proofs.SoundLaws.{MissesAll, MissesBegun, missed-stays, left-sound}
+use Rattle.demands.proofs.FormatStaysLaws.{format-stays-quiet}
+use Rattle.demands.proofs.QuietLaws.{quiet-real}
 
 -- the four bytes of an address
 pub id-same : (img later : List ℕ) (at : ℕ) → ((i : ℕ) → i < 5 → getD later (at + i) 0 ≡ getD img (at + i) 0)
@@ -209,6 +202,11 @@ pub held-by-others-quiet : HeldByOthers Quiet
 held-by-others-quiet w m l later next cylinder side only apart =
     held-by-track-quiet w m l later next (only-others (w .g) _ _ cylinder side later next only apart)
 
+pub held-by-format-quiet : HeldByFormat Quiet
+held-by-format-quiet w m l c q order plan f old disk calls its alone apart =
+    held-by-others-quiet w m l old _ (headOf order c) (order .side)
+    (format-stays-quiet c q order plan f old (w .g) disk calls its alone .others) apart
+
 pub sound-holds : SoundHolds Real
 sound-holds w = sound-holds-quiet (quiet-write w)
 
@@ -227,3 +225,6 @@ held-by-track w = held-by-track-quiet (quiet-write w)
 
 pub held-by-others : HeldByOthers Real
 held-by-others w = held-by-others-quiet (quiet-write w)
+
+pub held-by-format : HeldByFormat Real
+held-by-format w m l c r = held-by-format-quiet (quiet-write w) m l c (quiet-real c r)

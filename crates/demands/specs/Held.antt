@@ -11,7 +11,7 @@ use Rattle.image.specs.declared.layout.Geometry.{Geometry}
 use Rattle.image.specs.Layout.{Has, InSlot}
 use Rattle.image.specs.Sound.{Sound}
 use Rattle.fdc.specs.declared.record.Controller.{Controller}
-use Rattle.demands.specs.PowerCut.{begunOnes, passing}
+use Rattle.demands.specs.PowerCut.{begunOnes, passing, headOf}
 use Rattle.demands.specs.RoundTrip.{
   withProtect,
   Written,
@@ -29,6 +29,13 @@ use Rattle.demands.specs.RoundTrip.{
   SameSectors,
   GivenBack,
 }
+use Rattle.demands.specs.FormatScript.{Formats}
+use Rattle.demands.specs.Work.{Its, Alone, imageLeft}
+use Rattle.sectors.specs.declared.order.Order.{Order}
+use Rattle.sectors.specs.declared.order.Plan.{Plan}
+use Rattle.fdc.specs.Runs.{Call}
+use Rattle.image.specs.declared.disk.Disk.the-variants.{Present}
+use Rattle.image.specs.Disk.{diskIn}
 
 -- a sound one in which its slot is as it was
 abbrev pub SoundHolds : (Controller → Type 0) → Type 0
@@ -83,3 +90,12 @@ HeldByOthers From =
     → OnlyTrack (w .g) cylinder side later next
     → ((cylinder ≡ cylinderOf w) × (side ≡ aimOf w m .side) → ⊥)
     → HoldsNo w later m → HoldsNo w next m
+
+-- a Format of another track, whole or cut, of the same disk
+abbrev pub HeldByFormat : (Controller → Type 0) → Type 0
+HeldByFormat From =
+    (w : Written From) (m : ℕ) → m < sectorsBy w
+    → (c : Controller) → From c → (order : Order) (plan : Plan) → Formats c order plan
+    → (old : List ℕ) → diskIn old ≡ Present (w .g) → (calls : List Call) → Its calls c → Alone (order .drive) old calls c
+    → ((headOf order c ≡ cylinderOf w) × (order .side ≡ aimOf w m .side) → ⊥)
+    → HoldsNo w old m → HoldsNo w (imageLeft (order .drive) old calls c) m
