@@ -17,8 +17,7 @@ use Rattle.chip.specs.declared.codes.Kind.the-variants.{Format, Recalibrate, Se
 use Rattle.chip.specs.declared.codes.Kind.the-variants.{Version, Configure}
 use Rattle.chip.specs.Commands.{kindOf, bytesOf, entryOf, mtOf, skOf}
 use Rattle.drive.specs.declared.Motion.{Motion}
-use Rattle.drive.specs.Drive.{accepted, distance, firstWait, recalibrateSteps, seekOf, recalibrateOf}
-use Rattle.drive.specs.declared.Motion.the-variants.{Seeking, Recalibrating}
+use Rattle.drive.specs.Drive.{accepted, seekOf, recalibrateOf}
 use Rattle.sectors.specs.declared.order.Order.{Order}
 use Rattle.sectors.specs.declared.order.Pass.{Pass}
 use Rattle.sectors.specs.declared.order.Pass.the-variants.{Read, Write}
