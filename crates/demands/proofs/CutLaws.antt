@@ -130,7 +130,7 @@ noted-closed p v at bytes h e b = rw (b, eq-eqb p at e)
 pub some≢none : (at : ℕ) (bytes : List ℕ) → some-of at bytes ≡ no-one → ⊥
 some≢none at bytes e = let z : _≡_ {A = ℕ} 0 1 = cc in omega arith
 
-not-80 : (x : ℕ) → (x ≡ 0x01) ⊎ (x ≡ 0x04) → x ≡ 0x80 → ⊥
+pub not-80 : (x : ℕ) → (x ≡ 0x01) ⊎ (x ≡ 0x04) → x ≡ 0x80 → ⊥
 not-80 x (inl y) z = omega arith
 not-80 x (inr y) z = omega arith
 

@@ -62,7 +62,7 @@ use Rattle.demands.proofs.PowerCutLaws.{power-cut-quiet}
 use Rattle.demands.proofs.CallLaws.{tick-starts, tick-works, calm-keeps}
 use Rattle.demands.proofs.QuietLaws.{quiet-real, quiet-after}
 use Rattle.demands.proofs.FollowLaws.{StartsBroken, OnStage, siteAt, differs, taskIn, Follow, goes, ends, follow-rule}
-use Rattle.demands.proofs.TickRules.{transfer-rule}
+use Rattle.demands.proofs.TickRules.{transfer-rule, beq-same}
 
 -- the result: the data error with the sector's address; or ST1 10, and L, what a late byte stands for
 abbrev pub ErrorOr : Bool → Site → Id → Type 0 → Controller → Type 0
@@ -361,10 +361,6 @@ module _ (c : Controller) (qc : Quiet c) (order : Order) (transfer : Transfer) (
       spins alone′ timely
       (ends-in-time-quiet e qe order′ (r .accepted) img g disk calls′ alone′ more)
 
-beq-same : (a b : Bool) → a ≡ b → not (Bool·beq b a) ≡ false
-beq-same true b e = rw (← e) refl
-beq-same false b e = rw (← e) refl
-
 beq-other : (a b : Bool) → (a ≡ b → ⊥) → not (Bool·beq b a) ≡ true
 beq-other true true e = absurd (e refl)
 beq-other true false e = refl
@@ -385,7 +381,7 @@ module _ (transfer written : Transfer) (order : Order) (g : Geometry) (id : Id) 
             waits = o .waits;
             st0 = a;
             st1 = b;
-            own-kind = λ k. rw (beq-same _ _ k) at d;
+            own-kind = λ k. rw (beq-same _ _ (sym k)) at d;
             other-kind = λ k. rw (beq-other _ _ k) at d;
             address = i;
           }
@@ -397,7 +393,7 @@ module _ (transfer written : Transfer) (order : Order) (g : Geometry) (id : Id) 
     where
       go : ErrorOr differ (siteAt (order .drive) (order .side) g) id (Unit {0}) c
           → ((resultByte 1 c ≡ 0x20) × (resultByte 2 c ≡ 0x20)) ⊎ (resultByte 1 c ≡ 0x10)
-      go (inl (a, b, d, i)) = inl (b, rw (beq-same _ _ k) at d)
+      go (inl (a, b, d, i)) = inl (b, rw (beq-same _ _ (sym k)) at d)
       go (inr (a, l)) = inr a
 
 pub data-error-in-time-quiet : DataErrorInTime Quiet

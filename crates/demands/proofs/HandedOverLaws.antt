@@ -54,7 +54,7 @@ use Rattle.engine.specs.First.{changes, gateOf, givenId, movingOf, startOf, ent
 use Rattle.engine.specs.Step.{fromHost, lostOf, stageOf, workOf, goOnOf, passFlow}
 use Rattle.fdc.specs.declared.record.Controller.{Controller}
 use Rattle.fdc.specs.declared.record.Phase.{Phase}
-use Rattle.fdc.specs.declared.record.Phase.the-variants.{Idle, Starting, Working, Answering}
+use Rattle.fdc.specs.declared.record.Phase.the-variants.{Starting, Working, Answering}
 use Rattle.fdc.specs.declared.ticks.Decision.{Decision}
 use Rattle.fdc.specs.Good.{Suits}
 use Rattle.fdc.specs.Answer.{answerOf}
@@ -72,8 +72,9 @@ use Rattle.demands.proofs.AddressLaws.{onward-turn, onward-stay}
 use Rattle.demands.proofs.CallLaws.{tick-starts, tick-works, call-rule, calm-keeps, taken-rule}
 use Rattle.demands.proofs.CallRules.{NoTick, MayTake, FifoRule, same, took, gave, TakenRule, none-taken, one-taken, Keeps, CallRule, cut-off, goes-on}
 use Rattle.demands.specs.Quiet.{Quiet}
-use Rattle.demands.proofs.CutLaws.{marked-counts, next-slot-below, matches-id, turned-has}
+use Rattle.demands.proofs.CutLaws.{marked-counts, next-slot-below, matches-id, turned-has, not-80}
 use Rattle.demands.proofs.HandedStream.{AsksSome, some-emptied, some-taken, some-filled, size-some, Flow, flows, ended, flow-fresh, flow-got, flow-next, flow-most, flow-fill, flow-take, flow-skip}
+use Rattle.demands.proofs.PowerCutLaws.{idle≢answering}
 use Rattle.demands.proofs.QuietLaws.{quiet-real, quiet-after}
 use Rattle.demands.proofs.TickRules.{marked, hits, Fails, Filled, NextEnds, NextRule, stops, turns, steps, Rule, notFound, noData, noSide, late, misses, passes, toWrite, toRead, skips, turned-over, waits, begins, puts, pads, finishes, moves, moves-last, drains, data-error, other-kind, drained, transfer-rule}
 
@@ -115,15 +116,8 @@ clear-bit : (a : Bool) → otherBit a ≡ 0x00 → a ≡ false
 clear-bit true e = absurd (omega arith)
 clear-bit false e = refl
 
-not-80 : (x : ℕ) → (x ≡ 0x01) ⊎ (x ≡ 0x04) → x ≡ 0x80 → ⊥
-not-80 x (inl y) z = omega arith
-not-80 x (inr y) z = omega arith
-
 failed-above : (drive side : ℕ) → st0Of false drive side < 0x40 → ⊥
 failed-above drive side l = omega arith
-
-idle≢answering : (loud : Bool) → Idle ≡ Answering loud → ⊥
-idle≢answering loud e = let z : _≡_ {A = ℕ} 0 1 = cc in omega arith
 
 -- one aim further
 reach-next : (transfer : Transfer) (aim : Aim) (m : ℕ) → InReach transfer aim m → Followed transfer (aimNo transfer aim m)
@@ -736,16 +730,6 @@ module _ (g : Geometry) (cylinder drive : ℕ) (transfer : Transfer) (aim : Aim)
         )
     busy-rule o fit is (drained sector looks p q ok zc n) =
         next-step sector o (rw p at (b .link)) q ok zc (rw p at (b .flow)) n
-
--- only a tick changes an image
-image-same : (drive : ℕ) (img : List ℕ) (call : Call) (c : Controller) → NoTick call → imageBy drive img call c ≡ img
-image-same drive img (powers head0 head1) c n = refl
-image-same drive img (reads offset) c n = refl
-image-same drive img (writes offset byte) c n = refl
-image-same drive img (takes tc) c n = refl
-image-same drive img (gives byte tc) c n = refl
-image-same drive img (ticks a b) c n = absurd n
-image-same drive img (notes drive′) c n = refl
 
 module _ (g : Geometry) (cylinder : ℕ) (order : Order) (transfer : Transfer) (id : Id) (img : List ℕ)
     (disk : diskIn img ≡ Present g) (moves-it : order .job ≡ Move transfer id) (rd : transfer .pass ≡ Read)

@@ -52,6 +52,7 @@ use Rattle.demands.specs.Quiet.{Quiet}
 use Rattle.demands.proofs.QuietLaws.{quiet-real, quiet-after}
 use Rattle.demands.proofs.RequestLaws.{test-off, ReadServed, off-room, read-empty, read-taken, OffEmpty, off-empty-taken, read-filled, last-filled, WriteServed, ToldSome, write-opened, told-opened, write-given, told-given, write-drawn}
 use Rattle.demands.proofs.TickRules.{NextEnds, NextRule, stops, turns, steps, Rule, notFound, noData, noSide, late, misses, passes, toWrite, toRead, skips, turned-over, waits, begins, puts, pads, finishes, moves, moves-last, drains, data-error, other-kind, drained, transfer-rule}
+use Rattle.demands.proofs.PowerCutLaws.{idle≢answering}
 
 -- A read at a stage, and a write: the stages of the other there are none.
 
@@ -124,9 +125,6 @@ Gives efifo fifothr L o = OnThen efifo fifothr L (o .then) (o .fifo)
 
 read≢write : Read ≡ Write → ⊥
 read≢write e = let z : _≡_ {A = ℕ} 0 1 = cc in omega arith
-
-idle≢answering : (loud : Bool) → Idle ≡ Answering loud → ⊥
-idle≢answering loud e = let z : _≡_ {A = ℕ} 0 1 = cc in omega arith
 
 module _ (efifo : Bool) (fifothr : ℕ) (L : Type 0) where
   -- 01 Next
