@@ -22,6 +22,7 @@ pub mod HeldLaws
 pub mod InTimeLaws
 pub mod LeftLaws
 pub mod LoadsBackLaws
+pub mod NotFoundLaws
 pub mod OtherLaws
 pub mod PowerCutLaws
 pub mod QuietLaws

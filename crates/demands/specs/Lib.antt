@@ -9,6 +9,7 @@ pub mod Held
 pub mod History
 pub mod InTime
 pub mod LoadsBack
+pub mod NotFound
 pub mod PowerCut
 pub mod Quiet
 pub mod ReadIdGives
