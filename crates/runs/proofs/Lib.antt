@@ -4,9 +4,11 @@ pub mod CutExamples
 pub mod DataErrorExamples
 pub mod EndsExamples
 pub mod FormatExamples
+pub mod FormatRuns
 pub mod HandedExamples
 pub mod Open
 pub mod PromptRuns
+pub mod ReadIdRuns
 pub mod RegisterRuns
 pub mod RowRuns
 pub mod SmallLaws

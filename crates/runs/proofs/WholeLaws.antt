@@ -198,7 +198,7 @@ unfolding Alone
 handing-alone drive p [] c img = tt
 handing-alone drive p (call ∷ calls) c img = λ w. (lent drive p img call, handing-alone drive p calls _ _)
 
-real-asked : (x : Given) → byteTests (asking x) ≡ true → Real (askedBy x)
+pub real-asked : (x : Given) → byteTests (asking x) ≡ true → Real (askedBy x)
 real-asked x t =
     record {
       head0 = x .head0;

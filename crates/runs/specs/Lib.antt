@@ -3,9 +3,11 @@ pub mod AnswerRuns
 pub mod CutExamples
 pub mod DataErrorExamples
 pub mod FormatExamples
+pub mod FormatRuns
 pub mod HandedExamples
 pub mod Host
 pub mod PromptRuns
+pub mod ReadIdRuns
 pub mod RegisterRuns
 pub mod RowRuns
 pub mod SucceedsExamples
