@@ -1,6 +1,6 @@
 # `make demo` shows a save, a power cut and what comes after it; `make test` is the gate; `make fuzz CALLS=..` runs the
-# library beside the independent model; `make bench` measures the two.
-.PHONY: demo test fuzz bench library
+# library beside the independent model; `make bench` measures the two; `make mutants` asks the statements of wrong boxes.
+.PHONY: demo test fuzz bench library mutants
 
 CALLS ?= 10000000
 SEED ?= 1
@@ -21,3 +21,8 @@ fuzz: library
 
 bench: library
 	@LIB=target/staticlib/libcapi.a bench/run
+
+# about half a minute for each, one after the other; not part of the gate
+mutants:
+	@rt check demands answers >/dev/null
+	@tests/mutants/run $(NAMES)

@@ -2,7 +2,7 @@
 -- meets its cause, from any reached record, whatever the other image holds: ST0 ST1 ST2 C H R N.
 -- Assumes nothing.
 use Prim.Native.Nat.{ℕ, _+_, _*_, _%_, _<_, _≤_}
-use mathlib.Core.Bool.{Bool, true, false, _&&_}
+use mathlib.Core.Bool.{Bool, true, false, _&&_, _||_, not, cond}
 use mathlib.Core.List.{List, [], _∷_}
 use mathlib.Core.Logic.{_⊎_}
 use mathlib.Core.Path.{_≡_}
@@ -26,7 +26,7 @@ use Rattle.sectors.specs.declared.work.Work.{Work}
 use Rattle.sectors.specs.declared.work.Work.the-variants.{Identifying, Moving, Formatting}
 use Rattle.engine.specs.Format.{doneOf}
 use Rattle.sectors.specs.Result.{otherBit}
-use Rattle.sectors.specs.Search.{noted, cylinderBits, slotOf}
+use Rattle.sectors.specs.Search.{slotOf}
 use Rattle.engine.specs.Step.{driveOf, siteOf}
 use Rattle.image.specs.declared.disk.Disk.{Disk}
 use Rattle.image.specs.declared.disk.Disk.the-variants.{Absent, Present}
@@ -158,6 +158,17 @@ abbrev pub Fails : ℕ → ℕ → Controller → Site → Task → List ℕ →
 Fails st1 st2 c site task a b =
     Result (after (ticks a b) c) (failedSt0 (site .side) (site .drive)) st1 (otherBit (task .other) + st2) (task .id)
 
+-- 01 Search: ST2 10 if an ID had another C below FF and 02 if one had another C that is FF; both may stand
+abbrev pub cylinderSt2 : Bool → Bool → ℕ
+cylinderSt2 below ff = cond below 0x10 0x00 + cond ff 0x02 0x00
+
+-- so had one of the slots before, or this one
+abbrev pub belowFf : Search → ℕ → ℕ → Bool
+belowFf look c wanted = look .wrong || not (eqb c wanted) && not (eqb c 0xFF)
+
+abbrev pub isFf : Search → ℕ → ℕ → Bool
+isFf look c wanted = look .bad || not (eqb c wanted) && eqb c 0xFF
+
 -- 01 Search; 01 Read, of mark 5; 01 Data commands, of an MT turn
 pub record SearchEnds (c : Controller) (site : Site) (task : Task) (a b : List ℕ) : Type 0 where
   -- no ID met: ST1 01
@@ -167,14 +178,14 @@ pub record SearchEnds (c : Controller) (site : Site) (task : Task) (a b : List �
   -- else ST1 04, with ST2 10 if an ID had another C below FF and 02 if one had another C that is FF: the slots before
   pub others-met : (look : Search) → During c (Moving site task (Searching look)) a b
       → SecondPass (look .slot) (look .passes) site → marked (slotIn c site a b (look .slot)) ≡ NoId
-      → look .met ≡ true → Fails 0x04 (cylinderBits (look .wrong) (look .bad)) c site task a b
+      → look .met ≡ true → Fails 0x04 (cylinderSt2 (look .wrong) (look .bad)) c site task a b
   -- and the last one too
   pub other-id : (look : Search) → During c (Moving site task (Searching look)) a b
       → SecondPass (look .slot) (look .passes) site → HasId (marked (slotIn c site a b (look .slot)))
       → (Sought (slotIn c site a b (look .slot)) site task → ⊥)
       → Fails 0x04
-      (cylinderBits (noted (slotIn c site a b (look .slot) .id) (task .id) look .wrong)
-      (noted (slotIn c site a b (look .slot) .id) (task .id) look .bad))
+      (cylinderSt2 (belowFf look (slotIn c site a b (look .slot) .id .c) (task .id .c))
+      (isFf look (slotIn c site a b (look .slot) .id .c) (task .id .c)))
       c site task a b
   -- Read, mark 5: ST1 01, ST2 01
   pub no-data : (look : Search) → During c (Moving site task (Searching look)) a b → task .transfer .pass ≡ Read
