@@ -1,5 +1,6 @@
 pub mod AcceptLaws
 pub mod Answers
+pub mod ChangeFlagLaws
 pub mod CheckedExamples
 pub mod CommandLaws
 pub mod EasyLaws

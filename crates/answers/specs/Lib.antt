@@ -1,5 +1,6 @@
 pub mod Accepts
 pub mod Answers
+pub mod ChangeFlag
 pub mod CheckedExamples
 pub mod CommandResults
 pub mod EasyToGetWrong
