@@ -6,6 +6,7 @@ pub mod EndsExamples
 pub mod FormatExamples
 pub mod FormatRuns
 pub mod HandedExamples
+pub mod NotFoundRuns
 pub mod Open
 pub mod PromptRuns
 pub mod ReadIdRuns

@@ -6,6 +6,7 @@ pub mod FormatExamples
 pub mod FormatRuns
 pub mod HandedExamples
 pub mod Host
+pub mod NotFoundRuns
 pub mod PromptRuns
 pub mod ReadIdRuns
 pub mod RegisterRuns
