@@ -8,7 +8,6 @@ use mathlib.Core.Bool.{Bool, true, false, _&&_, _||_, and-false, true≢false, f
 use mathlib.Core.List.{List, [], _∷_, _++_}
 use mathlib.Core.Logic.{_⊎_, inl, inr}
 use mathlib.Core.Path.{_≡_, refl, sym, ap, _∙_, subst}
-use lib.Dec.{eqb}
 use lib.ListN.{length, getD, set, take}
 use lib.Seq.{take-length}
 use borrow.Author.Tests.{eq-eqb, ne-eqb}
@@ -17,7 +16,6 @@ use Rattle.image.proofs.TestLaws.{by-test}
 use Rattle.image.specs.declared.disk.Disk.{Disk}
 use Rattle.image.specs.declared.disk.Disk.the-variants.{Present}
 use Rattle.image.specs.declared.layout.Geometry.{Geometry}
-use Rattle.image.specs.declared.lent.Effect.{Effect}
 use Rattle.image.specs.declared.lent.Effect.the-variants.{Nothing, Store}
 use Rattle.image.specs.Disk.{diskIn}
 use Rattle.image.specs.Layout.{sizeOf, offsetOf}
@@ -56,7 +54,7 @@ use Rattle.fdc.specs.Runs.{Call, powers, reads, writes, takes, gives, ticks, no
 use Rattle.fdc.specs.Ticks.{seenOf, settledOf, decidedOf, ruledOf, tickOf, imageAfter}
 use Rattle.demands.specs.Acknowledged.{resultByte, resultId}
 use Rattle.demands.specs.FormatScript.{Stored, applied, slotDraws, slotStores, scriptOf, countedBy, storesBy, storesOf, Allowed, LeftByStores, RanOut, FormatSays, FormattedBy, FormatScript}
-use Rattle.demands.specs.History.{Begun, no-one, some-of, History, fresh, storedBy, noted, historyBy, historyOf}
+use Rattle.demands.specs.History.{History, fresh, noted, historyBy, historyOf}
 use Rattle.demands.specs.PowerCut.{headOf}
 use Rattle.demands.specs.Quiet.{Quiet}
 use Rattle.demands.specs.Work.{atWork, Its, imageBy, imageLeft, Handed, Alone, Real}
@@ -68,6 +66,7 @@ use Rattle.demands.proofs.PowerCutLaws.{image-same, idle≢answering}
 use Rattle.demands.proofs.QuietLaws.{quiet-real, quiet-after}
 use Rattle.demands.proofs.TickRules.{endsWith}
 use Rattle.demands.proofs.ScriptLaws.{applied-append, soFar, placeOf, drawnIn, InScript, script-length, so-far-take, so-far-addresses, so-far-addressed, so-far-fills, so-far-marks, so-far-clears, so-far-turns, so-far-grown, place-inside, script-some, stage-done, Fed, fed-none, fed-grown, Needs, fed-on}
+use Rattle.demands.proofs.LeftLaws.{noted-host}
 
 drawn-tc : (efifo : Bool) (fifothr : ℕ) (f : Fifo) → drawnOf efifo fifothr f .tc ≡ f .tc
 unfolding drawnOf
@@ -78,15 +77,6 @@ given-tc : (efifo : Bool) (byte : ℕ) (f : Fifo) → f .tc ≡ false → givenO
 unfolding givenOf
 given-tc efifo byte f e =
     by-test (fullOf efifo f) (λ (x : Fifo). x .tc ≡ false) _ _ (λ t. e) (λ t. ap (λ (x : Bool). x || false) e)
-
--- a store hands over nothing
-noted-host : (e : Effect) (h : History) → noted e h .host ≡ h .host
-noted-host Nothing h = refl
-noted-host (Store at byte) h = go (h .begun)
-  where
-    go : (b : Begun) → storedBy at byte b h .host ≡ h .host
-    go no-one = refl
-    go (some-of mark bytes) = by-test (eqb at mark) (λ (x : History). x .host ≡ h .host) _ _ (λ t. refl) (λ t. refl)
 
 module _ (g : Geometry) (cylinder drive side : ℕ) (plan : Plan) (old : List ℕ) where
   abbrev pub site : Site

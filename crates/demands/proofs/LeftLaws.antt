@@ -12,9 +12,9 @@ use lib.ListN.{length, getD, set, length-set, length-append, List·getD-append}
 use lib.Seq.{getD-set-same, getD-set-other}
 use borrow.Author.Tests.{eqb-true, eqb-false, eq-eqb, ne-eqb}
 use Rattle.image.proofs.LayoutLaws.{slot-inside, slots-share-nothing}
-use Rattle.image.proofs.TestLaws.{le-or-lt}
+use Rattle.image.proofs.TestLaws.{le-or-lt, by-test}
 use Rattle.image.specs.declared.layout.Geometry.{Geometry}
-use Rattle.image.specs.declared.lent.Effect.the-variants.{Store}
+use Rattle.image.specs.declared.lent.Effect.the-variants.{Store, Nothing}
 use Rattle.image.specs.declared.mark.Mark.the-variants.{Data}
 use Rattle.image.specs.declared.slot.Id.{Id}
 use Rattle.image.specs.Disk.{Fits}
@@ -23,9 +23,10 @@ use Rattle.image.specs.Mark.{byteOf}
 use Rattle.image.specs.Slot.{idAt}
 use Rattle.image.specs.Sound.{markIn}
 use Rattle.sectors.specs.declared.order.Transfer.{Transfer}
-use Rattle.demands.specs.History.{Sector, Begun, no-one, some-of, History, fresh, noted, handed}
+use Rattle.demands.specs.History.{Sector, Begun, no-one, some-of, History, fresh, noted, handed, storedBy}
 use Rattle.demands.specs.PowerCut.{Aim, aimNo, Followed, Counts, Stands, HalfDone, AllFinished, BegunHalf, begunBytes, SparesAll, LeftBy}
 use Rattle.demands.proofs.AddressLaws.{Behind, behind-differs, AllBehind, aim-byte}
+use Rattle.image.specs.declared.lent.Effect.{Effect}
 
 -- place p is one of the sector's whose mark stands at `at`
 pub record Inside (g : Geometry) (at p : ℕ) : Type 0 where
@@ -362,3 +363,13 @@ module _ (g : Geometry) (cylinder : ℕ) (transfer : Transfer) (aim : Aim) (old 
             size = length-set img at good ∙ left .size;
             marked = marked-mark g cylinder old fits img at good (st .marked) (left .marked);
           })
+
+-- a store leaves the host's bytes
+pub noted-host : (effect : Effect) (h : History) → noted effect h .host ≡ h .host
+noted-host Nothing h = refl
+noted-host (Store at byte) h = go (h .begun)
+  where
+    go : (b : Begun) → storedBy at byte b h .host ≡ h .host
+    go no-one = refl
+    go (some-of mark bytes) =
+        by-test (eqb at mark) (λ (x : History). x .host ≡ h .host) _ _ (λ t. refl) (λ t. refl)

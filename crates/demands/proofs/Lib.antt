@@ -1,5 +1,6 @@
 pub mod AcknowledgedLaws
 pub mod AddressLaws
+pub mod AfterTcLaws
 pub mod BoundLaws
 pub mod CallLaws
 pub mod CallRules

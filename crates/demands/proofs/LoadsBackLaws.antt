@@ -49,11 +49,13 @@ use Rattle.demands.specs.Succeeds.{Fill, Success}
 use Rattle.demands.specs.Work.{Real, Its, Alone, imageLeft}
 use Rattle.demands.specs.Work as command
 use Rattle.demands.proofs.AcknowledgedLaws.{acknowledged-quiet}
-use Rattle.demands.proofs.HandedOverLaws.{handed-over-quiet}
+use Rattle.demands.proofs.HandedOverLaws.{handed-over-quiet, to-start}
 use Rattle.demands.proofs.HeldLaws.{id-same, own-id, sound-holds-quiet}
 use Rattle.demands.proofs.QuietLaws.{quiet-real}
 use Rattle.demands.proofs.ReadSucceedsLaws.{read-succeeds-in-time-quiet}
 use Rattle.demands.proofs.RoundTripLaws.{protect-has, left-of, stood, round-trip-quiet, quiet-write}
+use Rattle.demands.proofs.AfterTcLaws.{most-along}
+use Rattle.demands.proofs.CourseLaws.{low-drive}
 
 -- The calls of a command that ends within a list: a first part of it.
 
@@ -65,6 +67,7 @@ record Part (P : Controller → Type 0) (Q : Taken → Type 0) (drive : ℕ) (im
   its : Its part c
   alone : Alone drive img part c
   ends : P (runCalls part c)
+  along : AsTaken Q part c t
   took : Q (takenOver part c t)
 
 module _ (P : Controller → Type 0) (Q : Taken → Type 0) (drive : ℕ) where
@@ -72,9 +75,9 @@ module _ (P : Controller → Type 0) (Q : Taken → Type 0) (drive : ℕ) where
       → Alone drive img calls c → AsTaken Q calls c t → Q t → Part P Q drive img calls c t
   unfolding command.Ends Alone AsTaken Its runCalls takenOver
   part-of [] c img t (over, p) a s q =
-      record { part = []; rest = []; split = refl; its = tt; alone = tt; ends = p; took = q }
+      record { part = []; rest = []; split = refl; its = tt; alone = tt; ends = p; along = tt; took = q }
   part-of (call ∷ calls) c img t (inl (over, p)) a s q =
-      record { part = []; rest = call ∷ calls; split = refl; its = tt; alone = tt; ends = p; took = q }
+      record { part = []; rest = call ∷ calls; split = refl; its = tt; alone = tt; ends = p; along = tt; took = q }
   part-of (call ∷ calls) c img t (inr (w, e)) a s q =
       let (lent, alone) = a w in
       let (now, later) = s w in
@@ -86,6 +89,7 @@ module _ (P : Controller → Type 0) (Q : Taken → Type 0) (drive : ℕ) where
         its = (w, p .its);
         alone = λ w′. (lent, p .alone);
         ends = p .ends;
+        along = λ w′. (now, p .along);
         took = p .took;
       }
 
@@ -213,9 +217,7 @@ module _ (w : Written Quiet) (done : Succeeded w) (some : 0 < length (doneBy w .
           split = p .split;
           its = p .its;
           ends = p .ends;
-          all = many;
-          bytes = λ k l. back .bytes k (omega (arith, many)) (omega (arith, back .inside));
-          whole = λ m. back .whole (omega (arith, many));
+          bytes = back .whole (omega (arith, many, few));
         }
       where
         disk : diskIn later ≡ Present g′
@@ -231,6 +233,15 @@ module _ (w : Written Quiet) (done : Succeeded w) (some : 0 < length (doneBy w .
 
         many : bytes ≤ length (takenOver (p .part) c untaken .got)
         many = p .took .0 told
+
+        none-yet : TellsAt bytes untaken
+        none-yet = (λ e. absurd (false≢true e), λ l. absurd (omega (arith, some)))
+
+        few : length (takenOver (p .part) c untaken .got) ≤ bytes
+        few =
+            most-along g′ (headOf order c) order transfer (w .id) later disk (same .accepted .moves)
+            (same .accepted .reads) (low-drive c order q (same .accepted .accepted)) bytes (p .part) c untaken q (p .its)
+            (p .alone) (to-start (same .accepted .accepted) refl refl) (p .along) none-yet (omega arith)
 
         back : GivenBack (sectorsBy w * passing (w .g)) (doneBy w .host) (takenOver (p .part) c untaken .got)
         back =

@@ -15,11 +15,11 @@ use borrow.Author.Tests.{eqb-true, eqb-false, eq-eqb, lt-ltb}
 use Rattle.image.proofs.DiskLaws.{present-fits}
 use Rattle.image.proofs.LayoutLaws.{product-le}
 use Rattle.image.proofs.MarkLaws.{mark-of-byte}
-use Rattle.image.proofs.TestLaws.{by-test, le-or-lt}
+use Rattle.image.proofs.TestLaws.{le-or-lt}
 use Rattle.image.specs.declared.disk.Disk.the-variants.{Present}
 use Rattle.image.specs.declared.layout.Geometry.{Geometry}
 use Rattle.image.specs.declared.lent.Effect.{Effect}
-use Rattle.image.specs.declared.lent.Effect.the-variants.{Nothing, Store}
+use Rattle.image.specs.declared.lent.Effect.the-variants.{Nothing}
 use Rattle.image.specs.declared.mark.Mark.the-variants.{Data}
 use Rattle.image.specs.declared.slot.Id.{Id}
 use Rattle.image.specs.Disk.{Fits, diskIn}
@@ -67,7 +67,7 @@ use Rattle.fdc.specs.Runs.{Call, powers, reads, writes, takes, gives, ticks, no
 use Rattle.fdc.specs.Ticks.{seenOf, settledOf, decidedOf, ruledOf, tickOf, imageAfter}
 use Rattle.demands.specs.DataError.{Spins}
 use Rattle.demands.specs.EndsInTime.{boundOf}
-use Rattle.demands.specs.History.{Sector, Begun, no-one, some-of, History, fresh, storedBy, noted, historyBy}
+use Rattle.demands.specs.History.{Sector, Begun, no-one, some-of, History, fresh, historyBy}
 use Rattle.demands.specs.InTime.{Late, AtTick, AtTicks, Timely, InTime}
 use Rattle.demands.specs.PowerCut.{Aim, aimNo, Counts, Stands, Spares, AllFinished, BegunHalf, SparesAll, SparesBegun, LeftBy, Writes, headOf, passing}
 use Rattle.demands.specs.Quiet.{Quiet}
@@ -95,7 +95,7 @@ use Rattle.demands.proofs.DataErrorLaws.{disk-left}
 use Rattle.demands.proofs.EndsLaws.{ends-in-time-quiet}
 use Rattle.demands.proofs.FifoStream.{stream-within, held-more, held-none}
 use Rattle.demands.proofs.InTimeLaws.{prompt-in-time-quiet}
-use Rattle.demands.proofs.LeftLaws.{storedCount, front-differs}
+use Rattle.demands.proofs.LeftLaws.{storedCount, front-differs, noted-host}
 use Rattle.demands.proofs.PowerCutLaws.{image-same, Run, is-over, to-start, at-it, run-after}
 use Rattle.demands.proofs.QuietLaws.{quiet-real, quiet-after}
 use Rattle.demands.proofs.RequestLaws.{test-on, test-off}
@@ -162,16 +162,6 @@ fewer a b p l = go (le-or-lt b a)
     go : (b ≤ a) ⊎ (a < b) → a < b
     go (inl m) = absurd (omega (arith, product-le b p a p m (omega arith)))
     go (inr m) = m
-
--- a store leaves the host's bytes
-noted-host : (effect : Effect) (h : History) → noted effect h .host ≡ h .host
-noted-host Nothing h = refl
-noted-host (Store at byte) h = go (h .begun)
-  where
-    go : (b : Begun) → storedBy at byte b h .host ≡ h .host
-    go no-one = refl
-    go (some-of mark bytes) =
-        by-test (eqb at mark) (λ (x : History). x .host ≡ h .host) _ _ (λ t. refl) (λ t. refl)
 
 -- What was on the track before is there still: a write keeps the address of every slot and takes no mark away.
 module _ (g : Geometry) (cylinder : ℕ) (transfer : Transfer) (aim : Aim) (old img : List ℕ) (fits : Fits g old)

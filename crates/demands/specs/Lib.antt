@@ -1,4 +1,5 @@
 pub mod Acknowledged
+pub mod AfterTc
 pub mod DataError
 pub mod EndsInTime
 pub mod FormatScript

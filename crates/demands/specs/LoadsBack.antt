@@ -6,7 +6,7 @@ use Prim.Native.Nat.{ℕ, _-_, _<_, _≤_}
 use mathlib.Core.Bool.{Bool}
 use mathlib.Core.List.{List, _++_}
 use mathlib.Core.Path.{_≡_}
-use lib.ListN.{length, getD}
+use lib.ListN.{length}
 use Rattle.sectors.specs.declared.order.Order.{Order}
 use Rattle.sectors.specs.declared.order.Transfer.{Transfer}
 use Rattle.image.specs.Sound.{Sound}
@@ -43,17 +43,14 @@ pub record SameAgain {From : Controller → Type 0} (w : Written From) (c : Cont
   pub mt : transfer .mt ≡ w .transfer .mt
   pub kind : transfer .deleted ≡ w .transfer .deleted
 
--- a first part of the calls is the command's, ends it so, and has handed over these bytes; and if the host took no
--- more, no other
+-- a first part of the calls is the command's, ends it so, and has handed over these bytes and no other
 pub record Loads (P : Controller → Type 0) (host : List ℕ) (calls : List Call) (c : Controller) : Type 0 where
   pub part : List Call
   pub rest : List Call
   pub split : part ++ rest ≡ calls
   pub its : Its part c
   pub ends : P (runCalls part c)
-  pub all : length host ≤ length (takenOver part c untaken .got)
-  pub bytes : (k : ℕ) → k < length host → getD (takenOver part c untaken .got) k 0 ≡ getD host k 0
-  pub whole : length (takenOver part c untaken .got) ≤ length host → takenOver part c untaken .got ≡ host
+  pub bytes : takenOver part c untaken .got ≡ host
 
 -- the read is told TC with as many bytes as were written
 abbrev pub LoadsBack : (Controller → Type 0) → Type 0
