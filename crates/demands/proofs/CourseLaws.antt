@@ -1,7 +1,7 @@
 -- A command followed over a list of calls to its end: what every call keeps while the command is at work, and what that
 -- says once it is over. A call is split here alone into "tick or not".
 -- Assumes nothing.
-use Prim.Native.Nat.{ℕ, _<_}
+use Prim.Native.Nat.{ℕ, _<_, _%_}
 use mathlib.Core.Bool.{Bool, Bool·beq, true, false}
 use mathlib.Core.List.{List, [], _∷_}
 use mathlib.Core.Logic.{inl, inr}
@@ -35,7 +35,8 @@ use Rattle.fdc.specs.declared.ticks.Decision.{Decision}
 use Rattle.fdc.specs.Commands.{answeredOf}
 use Rattle.fdc.specs.Record.{driveAt, withFifo, withPhase}
 use Rattle.fdc.specs.Ticks.{settledOf, decidedOf, ruledOf, imageAfter}
-use Rattle.demands.proofs.CallLaws.{after-tick}
+use Rattle.demands.proofs.CallLaws.{after-tick, calm-keeps}
+use native.Mathlib.Nat.{mod-eq-of-lt}
 
 -- 01 Data commands: a header is as it was met
 pub same-geometry : (g : Geometry) → sameOf g g ≡ true
@@ -137,3 +138,47 @@ module _ (drive : ℕ) (Tick : Controller → Type 0) (Course : Controller → L
         course-ends calls (after call c) (imageBy drive img call c) (quiet-after call c q w)
             (course-after call c img q w (s .0) calm lent now k) spins alone later rest,
       )
+
+-- A command that stores nothing, by what each tick's step leads to: its image and the head stay.
+module _ (order : Order) (low : order .drive < 4) (cylinder : ℕ) (img : List ℕ) (Tick Way Said : Controller → Type 0)
+    (on-phase : (c e : Controller) → e .phase ≡ c .phase → atWork (c .phase) ≡ true → Way c → Way e)
+    (on-step : (a b : List ℕ) (c : Controller) → Quiet c → atWork (c .phase) ≡ true
+    → motorIn (c .registers .dor) (order .drive) ≡ true → pickOf (order .drive) a b ≡ img
+    → driveAt (order .drive % 4) (c .drives) .head ≡ cylinder → Tick c → Way c
+    → (o : Step) × (ruledOf a b c ≡ decidedOf (order .drive) o c)
+    × ((o .effect ≡ Nothing) × Way (settledOf (o .then) (o .fifo) c)))
+    (over : (c : Controller) → Way c → atWork (c .phase) ≡ false → Said c) where
+  record Still (c : Controller) (image : List ℕ) : Type 0 where
+    same : image ≡ img
+    head-is : driveAt (order .drive) (c .drives) .head ≡ cylinder
+    way : Way c
+
+  still-tick : (a b : List ℕ) (c : Controller) (image : List ℕ) → Quiet c → atWork (c .phase) ≡ true
+      → motorIn (c .registers .dor) (order .drive) ≡ true → pickOf (order .drive) a b ≡ image → Tick c
+      → Still c image → Still (after (ticks a b) c) (imageAfter (order .drive) a b c image)
+  still-tick a b c image q w motor lent t k =
+      let heads : driveAt (order .drive % 4) (c .drives) .head ≡ cylinder =
+      rw (mod-eq-of-lt {n = order .drive} {m = 4} low) (k .head-is) in
+      let (o, e, kept) = on-step a b c q w motor (lent ∙ k .same) heads t (k .way) in
+      record {
+        same = tick-image a b (order .drive) o c e (order .drive) (kept .0) image ∙ k .same;
+        head-is = tick-head a b (order .drive) o c e ∙ k .head-is;
+        way = rw (tick-record a b (order .drive) o c e) (kept .1);
+      }
+
+  still-call : (call : Call) (c : Controller) (image : List ℕ) → Quiet c → atWork (c .phase) ≡ true → NoTick call
+      → Calm call → Still c image → Still (after call c) image
+  still-call call c image q w n calm k =
+      let keeps = calm-keeps call c q w n calm in
+      record {
+        same = k .same;
+        head-is = keeps .heads (order .drive) low ∙ k .head-is;
+        way = on-phase c (after call c) (keeps .phase) w (k .way);
+      }
+
+  pub still-ends : (calls : List Call) (c : Controller) → Quiet c → driveAt (order .drive) (c .drives) .head ≡ cylinder
+      → Way c → Spins (order .drive) calls c → Alone (order .drive) img calls c → AtTicks Tick calls c
+      → Ends Anyhow calls c → Ends Said calls c
+  still-ends calls c q h way =
+      course-ends (order .drive) Tick Still Said still-call still-tick (λ e image k. over e (k .way)) calls c img q
+      (record { same = refl; head-is = h; way = way })

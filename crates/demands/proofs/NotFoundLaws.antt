@@ -3,7 +3,6 @@
 -- Assumes nothing.
 use Prim.Native.Nat.{ℕ, zero, suc, _+_, _%_, _≤_, _<_}
 use native.Mathlib.Omega.{arith}
-use native.Mathlib.Nat.{mod-eq-of-lt}
 use mathlib.Core.Bool.{Bool, true, false, _&&_, _||_, not, cond, true≢false, false≢true}
 use mathlib.Core.List.{List}
 use mathlib.Core.Logic.{_⊎_, inl, inr}
@@ -47,11 +46,11 @@ use Rattle.engine.specs.Step.{stageOf, workOf, goOnOf}
 use Rattle.fdc.specs.declared.record.Controller.{Controller}
 use Rattle.fdc.specs.declared.record.Phase.the-variants.{Starting, Working}
 use Rattle.fdc.specs.Commands.{answeredOf}
-use Rattle.fdc.specs.Moves.{Calm, tickCount}
+use Rattle.fdc.specs.Moves.{tickCount}
 use Rattle.fdc.specs.Record.{driveAt, withFifo, withPhase}
 use Rattle.fdc.specs.Registers.{motorIn}
-use Rattle.fdc.specs.Runs.{Call, ticks, after}
-use Rattle.fdc.specs.Ticks.{seenOf, settledOf, decidedOf, ruledOf, imageAfter}
+use Rattle.fdc.specs.Runs.{Call}
+use Rattle.fdc.specs.Ticks.{seenOf, settledOf, decidedOf, ruledOf}
 use Rattle.demands.specs.DataError.{Spins}
 use Rattle.demands.specs.EndsInTime.{boundOf}
 use Rattle.demands.specs.NotFound.{some, hasId, otherBelow, otherFf, Missing, Misses, NotFound}
@@ -59,10 +58,8 @@ use Rattle.demands.specs.PowerCut.{headOf}
 use Rattle.demands.specs.Quiet.{Quiet}
 use Rattle.demands.specs.Work.{Real, atWork, Alone}
 use Rattle.demands.specs.Work as command
-use Rattle.demands.proofs.CallLaws.{tick-starts, tick-works, calm-keeps}
-use Rattle.demands.proofs.CallRules.{NoTick}
-use Rattle.demands.proofs.CourseLaws.{same-geometry, tick-record, tick-head, tick-image, low-drive, all-ticks}
-use Rattle.demands.proofs.CourseLaws.{course-ends}
+use Rattle.demands.proofs.CallLaws.{tick-starts, tick-works}
+use Rattle.demands.proofs.CourseLaws.{same-geometry, low-drive, all-ticks, still-ends}
 use Rattle.demands.proofs.CutLaws.{marked-counts, matches-id}
 use Rattle.demands.proofs.EndsLaws.{ends-in-time-quiet}
 use Rattle.demands.proofs.FollowLaws.{siteAt}
@@ -355,11 +352,6 @@ module _ (img : List ℕ) (g : Geometry) (disk : diskIn img ≡ Present g) (orde
     works : (look : Search) → c .phase ≡ Working (Moving site task (Searching look)) → On look → Way c
     over : Said c → Way c
 
-  record Course (c : Controller) (image : List ℕ) : Type 0 where
-    same : image ≡ img
-    head-is : driveAt (order .drive) (c .drives) .head ≡ cylinder
-    way : Way c
-
   seen : (dor : ℕ) → motorIn dor (order .drive) ≡ true → seenOf dor (order .drive) img ≡ Present g
   unfolding seenOf
   seen dor m = rw (m, disk)
@@ -420,63 +412,39 @@ module _ (img : List ℕ) (g : Geometry) (disk : diskIn img ≡ Present g) (orde
   over-so c (works look p on) a = absurd (true≢false (sym (ap atWork p) ∙ a))
   over-so c (over s) a = s
 
-  module _ (a b : List ℕ) (c : Controller) (q : Quiet c) (w : atWork (c .phase) ≡ true)
-      (motor : motorIn (c .registers .dor) (order .drive) ≡ true) (lent : pickOf (order .drive) a b ≡ img)
-      (head-is : driveAt (order .drive) (c .drives) .head ≡ cylinder) where
-    heads : driveAt (order .drive % 4) (c .drives) .head ≡ cylinder
-    heads = rw (mod-eq-of-lt {n = order .drive} {m = 4} low) head-is
+  -- where a tick's step leads
+  led : (c : Controller) (o : Step) → Leads o → (o .effect ≡ Nothing) × Way (settledOf (o .then) (o .fifo) c)
+  led c o on = (no-effect o on, landed c o on)
 
-    step-of : Way c → (o : Step) × (ruledOf a b c ≡ decidedOf (order .drive) o c) × Leads o
-    step-of (starts p) = (
-      movingOf (transfer .pass) transfer id site (c .fifo),
-      tick-starts a b c order q p ∙ rw (lent, seen _ motor, heads, begun (c .fifo)),
-      starts-at (transfer .pass) (c .fifo),
-    )
-    step-of (works look p on) = (
-      searchOf look site task cylinder img (c .fifo),
-      tick-works a b c (Moving site task (Searching look)) q p
-          ∙ rw (lent, seen _ motor, heads, gone-on look (c .fifo) (c .registers .efifo) (c .registers .fifothr)),
-      look-leads look (c .fifo) on,
-    )
-    step-of (over s) = absurd (false≢true (sym (ap atWork (s .waits)) ∙ w))
+  step-of : (a b : List ℕ) (c : Controller) → Quiet c → atWork (c .phase) ≡ true
+      → motorIn (c .registers .dor) (order .drive) ≡ true → pickOf (order .drive) a b ≡ img
+      → driveAt (order .drive % 4) (c .drives) .head ≡ cylinder → Unit {0} → Way c
+      → (o : Step) × (ruledOf a b c ≡ decidedOf (order .drive) o c)
+      × ((o .effect ≡ Nothing) × Way (settledOf (o .then) (o .fifo) c))
+  step-of a b c q w motor lent heads t (starts p) = (
+    movingOf (transfer .pass) transfer id site (c .fifo),
+    tick-starts a b c order q p ∙ rw (lent, seen _ motor, heads, begun (c .fifo)),
+    led c _ (starts-at (transfer .pass) (c .fifo)),
+  )
+  step-of a b c q w motor lent heads t (works look p on) = (
+    searchOf look site task cylinder img (c .fifo),
+    tick-works a b c (Moving site task (Searching look)) q p
+        ∙ rw (lent, seen _ motor, heads, gone-on look (c .fifo) (c .registers .efifo) (c .registers .fifothr)),
+    led c _ (look-leads look (c .fifo) on),
+  )
+  step-of a b c q w motor lent heads t (over s) = absurd (false≢true (sym (ap atWork (s .waits)) ∙ w))
 
-    tick-course : Way c → Course (after (ticks a b) c) (imageAfter (order .drive) a b c img)
-    tick-course way =
-        let (o, e, on) = step-of way in
-        record {
-          same = tick-image a b (order .drive) o c e (order .drive) (no-effect o on) img;
-          head-is = tick-head a b (order .drive) o c e ∙ head-is;
-          way = rw (tick-record a b (order .drive) o c e) (landed c o on);
-        }
-
-  on-tick : (a b : List ℕ) (c : Controller) (image : List ℕ) → Quiet c → atWork (c .phase) ≡ true
-      → motorIn (c .registers .dor) (order .drive) ≡ true → pickOf (order .drive) a b ≡ image → Unit {0}
-      → Course c image → Course (after (ticks a b) c) (imageAfter (order .drive) a b c image)
-  on-tick a b c image q w motor lent t k =
-      rw (k .same) (tick-course a b c q w motor (lent ∙ k .same) (k .head-is) (k .way))
-
-  on-call : (call : Call) (c : Controller) (image : List ℕ) → Quiet c → atWork (c .phase) ≡ true → NoTick call
-      → Calm call → Course c image → Course (after call c) image
-  on-call call c image q w n calm k =
-      let keeps = calm-keeps call c q w n calm in
-      record {
-        same = k .same;
-        head-is = keeps .heads (order .drive) low ∙ k .head-is;
-        way = go (keeps .phase) (k .way);
-      }
-    where
-      go : after call c .phase ≡ c .phase → Way c → Way (after call c)
-      go e (starts p) = starts (e ∙ p)
-      go e (works look p on) = works look (e ∙ p) on
-      go e (over s) = absurd (false≢true (sym (ap atWork (s .waits)) ∙ w))
+  on-phase : (c e : Controller) → e .phase ≡ c .phase → atWork (c .phase) ≡ true → Way c → Way e
+  on-phase c e same w (starts p) = starts (same ∙ p)
+  on-phase c e same w (works look p on) = works look (same ∙ p) on
+  on-phase c e same w (over s) = absurd (false≢true (sym (ap atWork (s .waits)) ∙ w))
 
   ends-said : (calls : List Call) (c : Controller) → Quiet c → c .phase ≡ Starting order
       → driveAt (order .drive) (c .drives) .head ≡ cylinder → Spins (order .drive) calls c
       → Alone (order .drive) img calls c → boundOf g ≤ tickCount calls → command.Ends Said calls c
   ends-said calls c q p h spins alone more =
-      course-ends (order .drive) (λ e. Unit {0}) Course Said on-call on-tick (λ e image k. over-so e (k .way)) calls c img
-      q (record { same = refl; head-is = h; way = starts p }) spins alone (all-ticks _ (λ x. tt) calls c)
-      (ends-in-time-quiet c q order p img g disk calls alone more)
+      still-ends order low cylinder img (λ e. Unit {0}) Way Said on-phase step-of over-so calls c q h (starts p) spins
+      alone (all-ticks _ (λ x. tt) calls c) (ends-in-time-quiet c q order p img g disk calls alone more)
 
 pub not-found-quiet : NotFound Quiet
 not-found-quiet c q order transfer id x img g disk missing calls spins alone more =
