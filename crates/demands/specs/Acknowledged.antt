@@ -69,7 +69,8 @@ Acknowledged From =
     → (calls : List Call) → Its calls c → Alone (order .drive) old calls c
     → runCalls calls c .phase ≡ Answering true
     → Acknowledges g transfer (record { id = id; side = order .side }) (historyOf calls c fresh)
-    (resultByte 0 (runCalls calls c)) (resultByte 1 (runCalls calls c)) (resultByte 2 (runCalls calls c)) (resultId (runCalls calls c))
+    (resultByte 0 (runCalls calls c)) (resultByte 1 (runCalls calls c)) (resultByte 2 (runCalls calls c))
+    (resultId (runCalls calls c))
 
 -- a data command, Read ID or Format ends with a result, or by a call that is a reset or power-on
 abbrev pub ResultWaits : (Controller → Type 0) → Type 0

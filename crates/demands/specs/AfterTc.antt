@@ -1,5 +1,5 @@
--- After TC no byte passes (01 Read: "TC empties the FIFO; no byte follows"; 01 FIFO: "after TC off for good"): once it has
--- come with a byte, no later call of the command hands one over or takes one.
+-- After TC no byte passes (01 Read: "TC empties the FIFO; no byte follows"; 01 FIFO: "after TC off for good"): once it
+-- has come with a byte, no later call of the command hands one over or takes one.
 -- Assumes nothing.
 use Prim.Native.Nat.{ℕ}
 use mathlib.Core.Bool.{true}

@@ -85,15 +85,15 @@ module _ (g : Geometry) (cylinder : ℕ) (transfer : Transfer) (aim : Aim) (img 
     was-read : (j : ℕ) → j < n → num j ≡ i → Passed num n i
     was-skipped : transfer .sk ≡ true → IsOther i → Passed num n i
 
-  -- n sectors are read: number j of them is number `num j` of the command, and `num n` is the one in hand. Those between
-  -- are skipped; SK 0 skips none
+  -- n sectors are read: number j of them is number `num j` of the command, and `num n` is the one in hand. Those
+  -- between are skipped; SK 0 skips none
   pub record Ways (num : ℕ → ℕ) (n : ℕ) : Type 0 where
     pub rises : (j : ℕ) → j < n → num j < num (suc j)
     pub passed : (i : ℕ) → i < num n → Passed num n i
     pub plain : transfer .sk ≡ false → (j : ℕ) → num j ≡ j
 
-  -- byte number k: byte k mod P of the sector k div P of those read, which is none behind EOT; with SK its mark is of the
-  -- command's kind
+  -- byte number k: byte k mod P of the sector k div P of those read, which is none behind EOT; with SK its mark is of
+  -- the command's kind
   pub record Comes (num : ℕ → ℕ) (k byte : ℕ) : Type 0 where
     pub at : ℕ
     pub stands : Stands g img cylinder (aimNo transfer aim (num (k / passing g))) at

@@ -96,6 +96,7 @@ abbrev pub HeldByFormat : (Controller → Type 0) → Type 0
 HeldByFormat From =
     (w : Written From) (m : ℕ) → m < sectorsBy w
     → (c : Controller) → From c → (order : Order) (plan : Plan) → Formats c order plan
-    → (old : List ℕ) → diskIn old ≡ Present (w .g) → (calls : List Call) → Its calls c → Alone (order .drive) old calls c
+    → (old : List ℕ) → diskIn old ≡ Present (w .g)
+    → (calls : List Call) → Its calls c → Alone (order .drive) old calls c
     → ((headOf order c ≡ cylinderOf w) × (order .side ≡ aimOf w m .side) → ⊥)
     → HoldsNo w old m → HoldsNo w (imageLeft (order .drive) old calls c) m

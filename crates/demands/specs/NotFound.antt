@@ -1,5 +1,5 @@
--- A read or a write whose first sector is not on the track (01 Search): at the second pass, no ID met, ST1 01; else ST1 04,
--- with ST2 10 if an ID had another C below FF and 02 if one had another C that is FF; both may stand.
+-- A read or a write whose first sector is not on the track (01 Search): at the second pass, no ID met, ST1 01; else
+-- ST1 04, with ST2 10 if an ID had another C below FF and 02 if one had another C that is FF; both may stand.
 -- Assumes nothing.
 use Prim.Native.Nat.{ℕ, zero, suc, _+_, _<_, _≤_}
 use mathlib.Core.Bool.{Bool, true, false, _&&_, _||_, not, cond}

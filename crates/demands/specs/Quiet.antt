@@ -1,5 +1,5 @@
--- What every record reached from power-on keeps to (01 Registers, Commands, Stepping): held in reset it is idle, no head
--- moves while a command is at work, and what a command was told is bytes. The statements over a command's calls are
+-- What every record reached from power-on keeps to (01 Registers, Commands, Stepping): held in reset it is idle, no
+-- head moves while a command is at work, and what a command was told is bytes. The statements over a command's calls are
 -- proved of every such record, and so also after a reset of any valid one; those of the reached ones follow.
 -- Assumes nothing.
 use Prim.Native.Nat.{ℕ, _<_}
