@@ -34,7 +34,7 @@ use Rattle.fdc.specs.Commands.{commandByte, ticksOf, runOf, gatheredOf, goesOn,
 use Rattle.fdc.specs.Data.{offeredOf, writeFifo}
 use Rattle.fdc.specs.Record.{driveAt, validOf, withRegisters, withBytes, withDrives, withDrive, withPhase}
 use Rattle.fdc.specs.Registers.{anyBusy, dmaIn, phaseStatus, msrOf}
-use Rattle.fdc.specs.Runs.{writes, answerTo, after, runCalls}
+use Rattle.reached.specs.Runs.{writes, answerTo, after, runCalls}
 use Rattle.fdc.proofs.ValidLaws.{valid-true, true-valid}
 use Rattle.demands.proofs.QuietLaws.{quiet-real}
 use Rattle.answers.specs.Accepts.{Ready, afterBytes, Begun, Moves, readCode, writeCode, Accepts, Refuses, BusyRule}

@@ -4,8 +4,8 @@ use native.Mathlib.Omega.{arith}
 use mathlib.Core.Logic.{inl, inr}
 use mathlib.Core.Path.{_≡_}
 use Rattle.fdc.specs.declared.record.Controller.{Controller}
-use Rattle.fdc.specs.Runs.{Call, powers, reads, writes, takes, gives, ticks, notes, Reached}
-use Rattle.fdc.proofs.GoodLaws.{reached-never-4}
+use Rattle.reached.specs.Runs.{Call, powers, reads, writes, takes, gives, ticks, notes, Reached}
+use Rattle.reached.proofs.GoodLaws.{reached-never-4}
 use Rattle.fdc.proofs.AnswerLaws.{only-one}
 use Rattle.answers.specs.Answers.{Outcome, OneAnswer, NeverFour}
 use Rattle.answers.specs.Refusals.{Fault, Damaged, Row, Given}

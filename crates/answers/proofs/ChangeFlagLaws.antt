@@ -24,9 +24,9 @@ use Rattle.fdc.specs.Answer.{answerOf}
 use Rattle.fdc.specs.Calls.{noteChange}
 use Rattle.fdc.specs.Commands.{ticksOf}
 use Rattle.fdc.specs.Record.{driveAt, withDrives, withDrive}
-use Rattle.fdc.specs.Runs.{answerTo, ticks, notes, after}
+use Rattle.reached.specs.Runs.{answerTo, ticks, notes, after}
 use Rattle.fdc.specs.Ticks.{seenOf, presentIn, tickAll, steppedOf, decideOf, ruledOf, tickOf}
-use Rattle.fdc.proofs.MoveLaws.{decide-in-drives}
+use Rattle.reached.proofs.MoveLaws.{decide-in-drives}
 use Rattle.answers.specs.ChangeFlag.{StepDue, Noted, ChangeFlag}
 use Rattle.answers.specs.Registers.{Undamaged, Free}
 use Rattle.answers.proofs.RegisterLaws.{undamaged-valid}

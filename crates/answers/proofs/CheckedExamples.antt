@@ -32,18 +32,18 @@ use Rattle.fdc.specs.Record.{freshOf, withRegisters, withDrives, withFifo, with
 use Rattle.fdc.specs.Registers.{motorIn, busyBits, anyBusy, pendingIn, msrOf, intOf, drqOf, dirOf}
 use Rattle.fdc.specs.Reset.{resetAll, resetOf, reportAll, releasedBy, releasedOf, withDor, withTdr, withRate}
 use Rattle.fdc.specs.Reset.{wroteDor, wroteDsr}
-use Rattle.fdc.specs.Runs.{answerTo, runCalls}
+use Rattle.reached.specs.Runs.{answerTo, runCalls}
 use Rattle.fdc.specs.Ticks.{seenOf, tickAll, steppedOf, st3Of, sensedAt, stillOf, settledOf, decidedOf}
 use Rattle.fdc.specs.Ticks.{startOf as fdc·startOf, workOf as fdc·workOf, decideIn, decideOf, ruledOf}
 use Rattle.fdc.specs.Ticks.{tickOf as fdc·tickOf, imageAfter}
 use Rattle.drive.specs.Drive.{fresh}
-use Rattle.fdc.specs.Examples.{command}
-use Rattle.fdc.specs.Runs.{writes, Reached}
+use Rattle.reached.specs.Examples.{command}
+use Rattle.reached.specs.Runs.{writes, Reached}
 use Rattle.image.proofs.Examples.{examples as image-examples}
 use Rattle.chip.proofs.Examples.{checked-examples as chip-examples}
-use Rattle.fdc.proofs.Examples.{examples as fdc-examples}
-use Rattle.fdc.proofs.SeekLaws.{recalibrate-on-time}
-use Rattle.fdc.proofs.Whole.{cut-whole}
+use Rattle.reached.proofs.Examples.{examples as fdc-examples}
+use Rattle.reached.proofs.SeekLaws.{recalibrate-on-time}
+use Rattle.reached.proofs.Whole.{cut-whole}
 use Rattle.answers.specs.CheckedExamples.{recalibrates, Recalibrated, CheckedExamples}
 
 reached : (head : ℕ) → Reached (recalibrates head)

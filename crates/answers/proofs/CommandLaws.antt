@@ -27,10 +27,10 @@ use Rattle.fdc.specs.Commands.{begunOf}
 use Rattle.fdc.specs.Data.{offeredOf, writeFifo}
 use Rattle.fdc.specs.Record.{driveAt, withBytes, withDrive, withDrives}
 use Rattle.fdc.specs.Registers.{heldIn, anyBusy, dmaIn, reportAt, phaseStatus, msrOf}
-use Rattle.fdc.specs.Runs.{writes, ticks, answerTo, after}
+use Rattle.reached.specs.Runs.{writes, ticks, answerTo, after}
 use Rattle.fdc.specs.Ticks.{seenOf, protectedIn, steppedOf, st3Of, sensedAt, stillOf, decideIn, decideOf, ruledOf}
-use Rattle.fdc.specs.Good.{Good}
-use Rattle.fdc.proofs.GoodLaws.{good-reached}
+use Rattle.reached.specs.Good.{Good}
+use Rattle.reached.proofs.GoodLaws.{good-reached}
 use Rattle.answers.specs.CommandResults.{Said, Waits, reportOf, CommandResults}
 use Rattle.demands.specs.Work.{Real}
 use Rattle.answers.proofs.Answers.{real-reached}

@@ -39,7 +39,7 @@ use Rattle.fdc.specs.declared.record.Phase.the-variants.{Working, Answering}
 use Rattle.fdc.specs.declared.ticks.Decision.{Decision}
 use Rattle.fdc.specs.Commands.{answeredOf}
 use Rattle.fdc.specs.Record.{withFifo, withPhase}
-use Rattle.fdc.specs.Runs.{ticks, after}
+use Rattle.reached.specs.Runs.{ticks, after}
 use Rattle.fdc.specs.Ticks.{settledOf, decidedOf, imageAfter}
 use Rattle.answers.specs.EasyToGetWrong.{resultByte, Seeks, seeks, EasyNext, EasyToGetWrong}
 use Rattle.answers.specs.Results.{During, AtNext, headAt, nextId}

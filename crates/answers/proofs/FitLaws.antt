@@ -62,7 +62,7 @@ use Rattle.fdc.specs.Record.{freshOf, driveAt, withRegisters, withDrives, withF
 use Rattle.fdc.specs.Record.{validOf}
 use Rattle.fdc.specs.Registers.{heldIn, motorIn, msrOf, drqOf, anyBusy}
 use Rattle.fdc.specs.Reset.{resetOf, releasedBy, releasedOf, withDor, withTdr, withRate, wroteDor, wroteDsr}
-use Rattle.fdc.specs.Runs.{Call, powers, reads, writes, takes, gives, ticks, notes, answerTo, after, runCalls}
+use Rattle.reached.specs.Runs.{Call, powers, reads, writes, takes, gives, ticks, notes, answerTo, after, runCalls}
 use Rattle.fdc.specs.Ticks.{seenOf, steppedOf, sensedAt, stillOf, settledOf, decidedOf, startOf, workOf, decideIn}
 use Rattle.fdc.specs.Ticks.{decideOf, ruledOf, tickOf}
 use Rattle.answers.specs.OnlyWrites.{suitedIn}

@@ -27,7 +27,7 @@ use Rattle.fdc.specs.declared.record.Phase.{Phase}
 use Rattle.fdc.specs.declared.record.Phase.the-variants.{Idle, Gathering, Starting, Working, Sensing, Answering}
 use Rattle.fdc.specs.Record.{driveAt}
 use Rattle.fdc.specs.Registers.{motorIn}
-use Rattle.fdc.specs.Runs.{Call, powers, reads, writes, takes, gives, ticks, notes, after}
+use Rattle.reached.specs.Runs.{Call, powers, reads, writes, takes, gives, ticks, notes, after}
 use Rattle.fdc.specs.Ticks.{seenOf, decidedOf, imageAfter}
 use Rattle.answers.specs.OnlyWrites.{Storing, Locked, AllHanded, ProtectedStays}
 use Rattle.demands.specs.Work.{Real, AllOfBytes, Handed, imageBy, imageLeft}

@@ -20,7 +20,7 @@ use Rattle.fdc.specs.Commands.{answeredOf, idledOf}
 use Rattle.fdc.specs.Data.{shifted, resultTaken, readIn, readFifo}
 use Rattle.fdc.specs.Record.{noBytes}
 use Rattle.fdc.specs.Registers.{heldIn, dmaIn, phaseStatus, msrOf, loudIn, phaseAsks, intOf}
-use Rattle.fdc.specs.Runs.{reads, answerTo, after, runCalls}
+use Rattle.reached.specs.Runs.{reads, answerTo, after, runCalls}
 use Rattle.fdc.proofs.ValidLaws.{valid-true, true-valid}
 use Rattle.answers.specs.ReadsOut.{Waiting, afterReads, Pending, of-drive, SameElse, TakenOut, ReadsOut}
 use Rattle.answers.specs.Registers.{Undamaged, Free, GateOn, Interrupts, of-report, of-result, of-request}

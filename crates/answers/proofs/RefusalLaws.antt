@@ -32,7 +32,7 @@ use Rattle.fdc.specs.Data.{dmaWriteOf}
 use Rattle.fdc.specs.Record.{driveAt, phaseWait, validOf}
 use Rattle.fdc.specs.Registers.{bit, busyBits, flowStatus, phaseStatus, dmaIn, heldIn, gateIn, phaseAsks, flowAsks}
 use Rattle.fdc.specs.Registers.{msrOf, intOf, drqOf}
-use Rattle.fdc.specs.Runs.{Call, powers, reads, writes, takes, gives, ticks, notes, answerTo, after}
+use Rattle.reached.specs.Runs.{Call, powers, reads, writes, takes, gives, ticks, notes, answerTo, after}
 use Rattle.fdc.specs.Ticks.{stillOf, ruledOf, tickOf, imageAfter}
 use Rattle.fdc.proofs.ValidLaws.{valid-true, true-valid}
 use Rattle.answers.specs.Refusals.{Fault, fifo-above, command-above, results-above, head-above, fifothr-above}

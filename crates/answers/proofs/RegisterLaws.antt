@@ -26,8 +26,8 @@ use Rattle.fdc.specs.Registers.{bit, heldIn, gateIn, motorIn, dmaIn, reportAt, 
 use Rattle.fdc.specs.Registers.{phaseStatus}
 use Rattle.fdc.specs.Registers.{msrOf, flowAsks, phaseAsks, loudIn, intOf, drqOf, dirOf}
 use Rattle.fdc.specs.Reset.{withDor, withTdr, wroteDor}
-use Rattle.fdc.specs.Runs.{Call, powers, writes, answerTo, after}
-use Rattle.fdc.proofs.GoodLaws.{good-valid, good-after, good-reached}
+use Rattle.reached.specs.Runs.{Call, powers, writes, answerTo, after}
+use Rattle.reached.proofs.GoodLaws.{good-valid, good-after, good-reached}
 use Rattle.answers.specs.Registers.{Undamaged, Held, Free, GateOn, Dma, NonDma, readsAs, Shows, MsrByPhase}
 use Rattle.answers.specs.Registers.{MovesBytes}
 use Rattle.answers.specs.Registers.{Requests, asks-for, Interrupts, of-report, of-result, of-request, Lines}

@@ -20,9 +20,9 @@ use Rattle.fdc.specs.Answer.{answerOf}
 use Rattle.fdc.specs.Calls.{portOf, writeReg, writePort}
 use Rattle.fdc.specs.Record.{driveAt, validOf, withRegisters, withDrives}
 use Rattle.fdc.specs.Reset.{resetOf, releasedBy, releasedOf, withDor, withRate, wroteDor, wroteDsr}
-use Rattle.fdc.specs.Runs.{writes, answerTo, after}
+use Rattle.reached.specs.Runs.{writes, answerTo, after}
 use Rattle.fdc.specs.Ticks.{imageAfter, stillOf, decideOf, ruledOf, tickOf}
-use Rattle.fdc.proofs.ResetLaws.{reset-drive, release-drive}
+use Rattle.reached.proofs.ResetLaws.{reset-drive, release-drive}
 use Rattle.answers.specs.Registers.{Undamaged, Held, Free}
 use Rattle.answers.specs.Resets.{Reset, ResetTable, HeldTick}
 use Rattle.answers.proofs.RegisterLaws.{undamaged-valid, after-dor}

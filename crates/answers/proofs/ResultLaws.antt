@@ -55,7 +55,7 @@ use Rattle.fdc.specs.declared.record.Controller.{Controller}
 use Rattle.fdc.specs.declared.record.Phase.the-variants.{Working}
 use Rattle.fdc.specs.Commands.{answeredOf}
 use Rattle.fdc.specs.Record.{withFifo}
-use Rattle.fdc.specs.Runs.{ticks, after}
+use Rattle.reached.specs.Runs.{ticks, after}
 use Rattle.fdc.specs.Ticks.{settledOf, decidedOf, ruledOf}
 use Rattle.answers.specs.Results as results
 use Rattle.answers.specs.Results.{Result, diskOf, headAt, NoTrack, OnTrack, zeros, formattedId, Before, firstId}

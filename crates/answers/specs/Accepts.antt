@@ -19,7 +19,7 @@ use Rattle.fdc.specs.declared.record.Controller.{Controller}
 use Rattle.fdc.specs.declared.record.Phase.the-variants.{Idle, Starting, Sensing}
 use Rattle.fdc.specs.Commands.{ticksOf}
 use Rattle.fdc.specs.Record.{noBytes, driveAt}
-use Rattle.fdc.specs.Runs.{Call, writes, runCalls}
+use Rattle.reached.specs.Runs.{Call, writes, runCalls}
 use Rattle.answers.specs.CommandResults.{Said, Waits, NoneBusy}
 use Rattle.answers.specs.ReadsOut.{SameElse}
 use Rattle.answers.specs.Registers.{Undamaged, Free}

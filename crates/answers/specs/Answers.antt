@@ -7,7 +7,7 @@ use mathlib.Core.List.{List}
 use mathlib.Core.Path.{_≡_}
 use Rattle.fdc.specs.declared.answer.Answer.{Answer}
 use Rattle.fdc.specs.declared.record.Controller.{Controller}
-use Rattle.fdc.specs.Runs.{Call, answerTo}
+use Rattle.reached.specs.Runs.{Call, answerTo}
 use Rattle.answers.specs.Refusals.{numberTo}
 use Rattle.demands.specs.Work.{Real, imageBy}
 

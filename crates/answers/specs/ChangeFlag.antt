@@ -12,9 +12,9 @@ use Rattle.image.specs.declared.disk.Disk.the-variants.{Absent, Present}
 use Rattle.image.specs.declared.layout.Geometry.{Geometry}
 use Rattle.image.specs.Lent.{pickOf}
 use Rattle.fdc.specs.declared.record.Controller.{Controller}
-use Rattle.fdc.specs.Moves.{Same}
+use Rattle.reached.specs.Moves.{Same}
 use Rattle.fdc.specs.Record.{driveAt}
-use Rattle.fdc.specs.Runs.{ticks, notes, after}
+use Rattle.reached.specs.Runs.{ticks, notes, after}
 use Rattle.fdc.specs.Ticks.{seenOf}
 use Rattle.answers.specs.Registers.{Undamaged, Free}
 

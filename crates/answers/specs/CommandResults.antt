@@ -12,7 +12,7 @@ use Rattle.image.specs.Lent.{pickOf}
 use Rattle.fdc.specs.declared.record.Controller.{Controller}
 use Rattle.fdc.specs.declared.record.Phase.the-variants.{Idle, Sensing, Answering}
 use Rattle.fdc.specs.Record.{driveAt}
-use Rattle.fdc.specs.Runs.{writes, ticks, after}
+use Rattle.reached.specs.Runs.{writes, ticks, after}
 use Rattle.fdc.specs.Ticks.{seenOf, protectedIn}
 use Rattle.answers.specs.Registers.{Free}
 use Rattle.demands.specs.Work.{Real}

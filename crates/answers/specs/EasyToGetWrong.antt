@@ -14,7 +14,7 @@ use Rattle.image.specs.Layout.{sizeOf, offsetOf}
 use Rattle.fdc.specs.declared.record.Controller.{Controller}
 use Rattle.fdc.specs.declared.record.Phase.the-variants.{Working, Answering}
 use Rattle.fdc.specs.Record.{driveAt}
-use Rattle.fdc.specs.Runs.{ticks, writes, after}
+use Rattle.reached.specs.Runs.{ticks, writes, after}
 use Rattle.fdc.specs.Ticks.{imageAfter}
 use Rattle.answers.specs.Registers.{Undamaged, Free}
 use Rattle.answers.specs.Results.{During, AtNext, headAt}

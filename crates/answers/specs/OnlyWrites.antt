@@ -16,7 +16,7 @@ use Rattle.image.specs.Lent.{pickOf}
 use Rattle.fdc.specs.declared.record.Controller.{Controller}
 use Rattle.fdc.specs.declared.record.Phase.{Phase}
 use Rattle.fdc.specs.declared.record.Phase.the-variants.{Idle, Gathering, Starting, Working, Sensing, Answering}
-use Rattle.fdc.specs.Runs.{Call}
+use Rattle.reached.specs.Runs.{Call}
 use Rattle.fdc.specs.Ticks.{imageAfter}
 use Rattle.demands.specs.Work.{Real, AllOfBytes, Handed, imageLeft}
 

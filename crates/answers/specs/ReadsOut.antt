@@ -12,7 +12,7 @@ use Rattle.fdc.specs.declared.record.Controller.{Controller}
 use Rattle.fdc.specs.declared.record.Phase.the-variants.{Idle, Answering}
 use Rattle.fdc.specs.Record.{noBytes, driveAt}
 use Rattle.fdc.specs.Registers.{intOf}
-use Rattle.fdc.specs.Runs.{reads, answerTo, runCalls}
+use Rattle.reached.specs.Runs.{reads, answerTo, runCalls}
 use Rattle.answers.specs.Registers.{Undamaged, Free, GateOn}
 use Rattle.demands.specs.Work.{Real}
 

@@ -14,7 +14,7 @@ use Rattle.fdc.specs.Answer.{valueOf, numberIn}
 use Rattle.fdc.specs.Data.{phaseToHost, phaseFromHost}
 use Rattle.fdc.specs.Record.{driveAt, freshOf, phaseWait}
 use Rattle.fdc.specs.Registers.{msrOf, intOf, drqOf}
-use Rattle.fdc.specs.Runs.{Call, powers, reads, writes, takes, gives, ticks, notes, answerTo, after}
+use Rattle.reached.specs.Runs.{Call, powers, reads, writes, takes, gives, ticks, notes, answerTo, after}
 use Rattle.demands.specs.Work.{imageBy}
 
 -- 01 Refusals 4: the record has a FIFO count above its capacity, over 9 command or 7 result bytes, a head above 81,

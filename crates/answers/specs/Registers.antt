@@ -19,7 +19,7 @@ use Rattle.fdc.specs.declared.record.Controller.{Controller}
 use Rattle.fdc.specs.declared.record.Phase.the-variants.{Idle, Gathering, Starting, Working, Sensing, Answering}
 use Rattle.fdc.specs.Answer.{valueOf}
 use Rattle.fdc.specs.Record.{driveAt}
-use Rattle.fdc.specs.Runs.{Call, powers, reads, writes, answerTo, after}
+use Rattle.reached.specs.Runs.{Call, powers, reads, writes, answerTo, after}
 use Rattle.answers.specs.Refusals.{Fault}
 use Rattle.demands.specs.Work.{Real}
 

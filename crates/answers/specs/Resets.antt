@@ -11,7 +11,7 @@ use Rattle.fdc.specs.declared.record.Controller.{Controller}
 use Rattle.fdc.specs.declared.record.Phase.the-variants.{Idle}
 use Rattle.fdc.specs.Record.{driveAt}
 use Rattle.fdc.specs.Reset.{withRate}
-use Rattle.fdc.specs.Runs.{writes, ticks, after}
+use Rattle.reached.specs.Runs.{writes, ticks, after}
 use Rattle.fdc.specs.Ticks.{imageAfter}
 use Rattle.answers.specs.Registers.{Undamaged, Held, Free}
 

@@ -41,7 +41,7 @@ use Rattle.image.specs.Mark.{markOf}
 use Rattle.fdc.specs.declared.record.Controller.{Controller}
 use Rattle.fdc.specs.declared.record.Phase.the-variants.{Starting, Working, Answering}
 use Rattle.fdc.specs.Record.{driveAt}
-use Rattle.fdc.specs.Runs.{ticks, after}
+use Rattle.reached.specs.Runs.{ticks, after}
 use Rattle.fdc.specs.Ticks.{seenOf}
 use Rattle.demands.specs.Work.{Real}
 

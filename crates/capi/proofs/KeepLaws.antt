@@ -10,10 +10,10 @@ use Rattle.image.proofs.TestLaws.{by-test}
 use Rattle.fdc.specs.declared.answer.Answer.{Answer}
 use Rattle.fdc.specs.declared.record.Controller.{Controller}
 use Rattle.fdc.specs.Answer.{numberIn, answerOf}
-use Rattle.fdc.specs.Runs.{ticks, answerTo, Reached}
+use Rattle.reached.specs.Runs.{ticks, answerTo, Reached}
 use Rattle.fdc.specs.Ticks.{tickOf}
-use Rattle.fdc.specs.Good.{Good}
-use Rattle.fdc.proofs.GoodLaws.{good-valid, good-after, good-reached}
+use Rattle.reached.specs.Good.{Good}
+use Rattle.reached.proofs.GoodLaws.{good-valid, good-after, good-reached}
 use Rattle.pack.specs.Bytes.{isRecord}
 use Rattle.capi.specs.Calls.{writtenOf, wordFrom, bytesFrom, cycledOf, cycleFrom}
 use Rattle.many_ticks.specs.Run.{Ran, ticked, changedIn, runOf, startOf, ticksOf}

@@ -40,7 +40,7 @@ use Rattle.fdc.specs.Data.{
   dmaReadOf,
   dmaWriteOf,
 }
-use Rattle.fdc.specs.Moves.{Calm}
+use Rattle.reached.specs.Moves.{Calm}
 use Rattle.fdc.specs.Record.{freshOf, driveAt, withRegisters, withDrives, withFifo, withDrive, validOf}
 use Rattle.fdc.specs.Registers.{
   heldIn,
@@ -56,9 +56,9 @@ use Rattle.fdc.specs.Registers.{
   drqOf,
 }
 use Rattle.fdc.specs.Reset.{resetOf, releasedBy, releasedOf, withDor, withTdr, withRate, wroteDor, wroteDsr}
-use Rattle.fdc.specs.Runs.{Call, powers, reads, writes, takes, gives, ticks, notes, answerTo, after}
+use Rattle.reached.specs.Runs.{Call, powers, reads, writes, takes, gives, ticks, notes, answerTo, after}
 use Rattle.fdc.specs.Ticks.{seenOf, decidedOf, startOf, workOf, decideIn, decideOf, ruledOf, tickOf}
-use Rattle.fdc.proofs.GoodLaws.{good-valid}
+use Rattle.reached.proofs.GoodLaws.{good-valid}
 use Rattle.demands.specs.HandedOver.{Taken, tookOne, tookBy, takenBy}
 use Rattle.demands.specs.History.{History, handed, taken, historyBy}
 use Rattle.demands.specs.Work.{atWork}

@@ -10,7 +10,7 @@ use Rattle.fdc.specs.declared.record.Controller.{Controller}
 use Rattle.fdc.specs.declared.record.Phase.the-variants.{Idle}
 use Rattle.fdc.specs.Data.{phaseToHost, phaseFromHost, phaseHears}
 use Rattle.fdc.specs.Record.{driveAt}
-use Rattle.fdc.specs.Runs.{Call, powers, reads, writes, takes, gives, ticks, notes}
+use Rattle.reached.specs.Runs.{Call, powers, reads, writes, takes, gives, ticks, notes}
 use Rattle.demands.specs.HandedOver.{Taken, tookOne, takenBy}
 use Rattle.demands.specs.History.{History, historyBy, handed}
 

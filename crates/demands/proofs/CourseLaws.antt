@@ -8,9 +8,9 @@ use mathlib.Core.Logic.{inl, inr}
 use mathlib.Core.Path.{_≡_, refl, ap, _∙_}
 use Rattle.image.specs.Lent.{pickOf}
 use Rattle.fdc.specs.declared.record.Controller.{Controller}
-use Rattle.fdc.specs.Moves.{Calm}
+use Rattle.reached.specs.Moves.{Calm}
 use Rattle.fdc.specs.Registers.{motorIn}
-use Rattle.fdc.specs.Runs.{Call, powers, reads, writes, takes, gives, ticks, notes, after}
+use Rattle.reached.specs.Runs.{Call, powers, reads, writes, takes, gives, ticks, notes, after}
 use Rattle.demands.specs.DataError.{Spins}
 use Rattle.demands.specs.InTime.{AtTick, AtTicks}
 use Rattle.demands.specs.Quiet.{Proper, Quiet}

@@ -40,10 +40,10 @@ use Rattle.image.proofs.MarkLaws.{mark-of-byte}
 use Rattle.fdc.specs.declared.record.Controller.{Controller}
 use Rattle.fdc.specs.declared.record.Phase.the-variants.{Starting, Working, Answering}
 use Rattle.fdc.specs.Commands.{answeredOf}
-use Rattle.fdc.specs.Moves.{Calm, tickCount}
+use Rattle.reached.specs.Moves.{Calm, tickCount}
 use Rattle.fdc.specs.Record.{driveAt, withFifo, withPhase}
 use Rattle.fdc.specs.Registers.{motorIn}
-use Rattle.fdc.specs.Runs.{Call, reads, ticks, after}
+use Rattle.reached.specs.Runs.{Call, reads, ticks, after}
 use Rattle.fdc.specs.Ticks.{seenOf, settledOf, decidedOf, ruledOf, imageAfter}
 use Rattle.demands.specs.Acknowledged.{resultByte, resultId}
 use Rattle.demands.specs.DataError.{ReadsThere, Spins, DataErrorOrLate, DataErrorAt, DataError, DataErrorInTime}

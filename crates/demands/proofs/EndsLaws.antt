@@ -33,12 +33,12 @@ use Rattle.fdc.specs.declared.record.Phase.{Phase}
 use Rattle.fdc.specs.declared.record.Phase.the-variants.{Idle, Gathering, Starting, Working, Sensing, Answering}
 use Rattle.fdc.specs.declared.ticks.Decision.{Decision}
 use Rattle.fdc.specs.Commands.{answeredOf, saidOf}
-use Rattle.fdc.specs.Moves.{tickOne, tickCount}
+use Rattle.reached.specs.Moves.{tickOne, tickCount}
 use Rattle.fdc.specs.Record.{driveAt, withFifo, withPhase}
 use Rattle.fdc.specs.Registers.{heldIn, motorIn}
-use Rattle.fdc.specs.Runs.{Call, powers, reads, writes, takes, gives, ticks, notes, after}
+use Rattle.reached.specs.Runs.{Call, powers, reads, writes, takes, gives, ticks, notes, after}
 use Rattle.fdc.specs.Ticks.{seenOf, sensedAt, stillOf, settledOf, decidedOf, decideIn, decideOf, ruledOf, imageAfter}
-use Rattle.fdc.proofs.GoodLaws.{good-valid}
+use Rattle.reached.proofs.GoodLaws.{good-valid}
 use Rattle.demands.specs.EndsInTime.{boundOf, EndsInTime, EndsInOne, SensesInOne}
 use Rattle.demands.specs.Work.{atWork, imageBy, Handed, Alone, Ends, Anyhow, Real}
 use Rattle.demands.proofs.BoundLaws.{workLeft, thenLeft, ProperWork, ProperThen, Falls, work-pos, go-on-falls, begin-falls}

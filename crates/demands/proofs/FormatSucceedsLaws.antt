@@ -31,10 +31,10 @@ use Rattle.engine.specs.Step.{workOf, goOnOf}
 use Rattle.fdc.specs.declared.record.Controller.{Controller}
 use Rattle.fdc.specs.declared.ticks.Decision.{Decision}
 use Rattle.fdc.specs.Commands.{answeredOf}
-use Rattle.fdc.specs.Moves.{Calm}
+use Rattle.reached.specs.Moves.{Calm}
 use Rattle.fdc.specs.Record.{withFifo, withPhase}
 use Rattle.fdc.specs.Registers.{motorIn}
-use Rattle.fdc.specs.Runs.{Call, powers, reads, writes, takes, gives, ticks, notes, after}
+use Rattle.reached.specs.Runs.{Call, powers, reads, writes, takes, gives, ticks, notes, after}
 use Rattle.fdc.specs.Ticks.{seenOf, settledOf, decidedOf, ruledOf}
 use Rattle.demands.specs.DataError.{Spins}
 use Rattle.demands.specs.FormatScript.{storesBy, Allowed}

@@ -38,10 +38,10 @@ use Rattle.fdc.specs.declared.record.Controller.{Controller}
 use Rattle.fdc.specs.declared.record.Phase.{Phase}
 use Rattle.fdc.specs.declared.record.Phase.the-variants.{Idle, Gathering, Starting, Working, Sensing, Answering}
 use Rattle.fdc.specs.declared.ticks.Decision.{Decision}
-use Rattle.fdc.specs.Good.{Suits}
+use Rattle.reached.specs.Good.{Suits}
 use Rattle.fdc.specs.Commands.{answeredOf}
 use Rattle.fdc.specs.Record.{withFifo, withPhase}
-use Rattle.fdc.specs.Runs.{Call, powers, reads, writes, takes, gives, ticks, notes, after, runCalls}
+use Rattle.reached.specs.Runs.{Call, powers, reads, writes, takes, gives, ticks, notes, after, runCalls}
 use Rattle.fdc.specs.Ticks.{settledOf, decidedOf, ruledOf}
 use Rattle.demands.specs.Acknowledged.{resultByte}
 use Rattle.demands.specs.InTime.{Late, LatePhase, AtTick, AtTicks, Timely, InTime, RequestOff, Prompt, PromptInTime, NeverLate}

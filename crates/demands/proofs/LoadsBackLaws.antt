@@ -19,8 +19,8 @@ use Rattle.image.proofs.DiskLaws.{fits-present}
 use Rattle.sectors.specs.declared.order.Order.{Order}
 use Rattle.sectors.specs.declared.order.Transfer.{Transfer}
 use Rattle.fdc.specs.declared.record.Controller.{Controller}
-use Rattle.fdc.specs.Moves.{tickCount}
-use Rattle.fdc.specs.Runs.{Call, after, runCalls}
+use Rattle.reached.specs.Moves.{tickCount}
+use Rattle.reached.specs.Runs.{Call, after, runCalls}
 use Rattle.demands.specs.Acknowledged.{resultByte, resultId, Acknowledges}
 use Rattle.demands.specs.DataError.{Spins}
 use Rattle.demands.specs.EndsInTime.{boundOf}

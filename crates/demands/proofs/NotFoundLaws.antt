@@ -46,10 +46,10 @@ use Rattle.engine.specs.Step.{stageOf, workOf, goOnOf}
 use Rattle.fdc.specs.declared.record.Controller.{Controller}
 use Rattle.fdc.specs.declared.record.Phase.the-variants.{Starting, Working}
 use Rattle.fdc.specs.Commands.{answeredOf}
-use Rattle.fdc.specs.Moves.{tickCount}
+use Rattle.reached.specs.Moves.{tickCount}
 use Rattle.fdc.specs.Record.{driveAt, withFifo, withPhase}
 use Rattle.fdc.specs.Registers.{motorIn}
-use Rattle.fdc.specs.Runs.{Call}
+use Rattle.reached.specs.Runs.{Call}
 use Rattle.fdc.specs.Ticks.{seenOf, settledOf, decidedOf, ruledOf}
 use Rattle.demands.specs.DataError.{Spins}
 use Rattle.demands.specs.EndsInTime.{boundOf}

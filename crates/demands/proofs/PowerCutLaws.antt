@@ -42,13 +42,13 @@ use Rattle.fdc.specs.declared.record.Controller.{Controller}
 use Rattle.fdc.specs.declared.record.Phase.{Phase}
 use Rattle.fdc.specs.declared.record.Phase.the-variants.{Idle, Starting, Working, Answering}
 use Rattle.fdc.specs.declared.ticks.Decision.{Decision}
-use Rattle.fdc.specs.Good.{Suits}
+use Rattle.reached.specs.Good.{Suits}
 use Rattle.fdc.specs.Answer.{answerOf}
 use Rattle.fdc.specs.Commands.{answeredOf}
 use Rattle.fdc.specs.Data.{phaseToHost, phaseHears}
 use Rattle.fdc.specs.Record.{driveAt, withFifo, withPhase}
 use Rattle.fdc.specs.Registers.{motorIn}
-use Rattle.fdc.specs.Runs.{Call, powers, reads, writes, takes, gives, ticks, notes, answerTo, after, runCalls}
+use Rattle.reached.specs.Runs.{Call, powers, reads, writes, takes, gives, ticks, notes, answerTo, after, runCalls}
 use Rattle.fdc.specs.Ticks.{seenOf, settledOf, decidedOf, ruledOf, tickOf, imageAfter}
 use Rattle.demands.specs.Acknowledged.{resultByte, resultId, Acknowledges}
 use Rattle.demands.specs.History.{History, fresh, noted, handed, historyBy, historyOf}

@@ -121,7 +121,7 @@ use Rattle.fdc.specs.Reset.{
   wroteDor,
   wroteDsr,
 }
-use Rattle.fdc.specs.Runs.{
+use Rattle.reached.specs.Runs.{
   Call,
   powers,
   reads,
@@ -148,11 +148,11 @@ use Rattle.fdc.specs.Ticks.{
   ruledOf,
   tickOf,
 }
-use Rattle.fdc.specs.Good.{Good}
+use Rattle.reached.specs.Good.{Good}
 use Rattle.chip.proofs.FifoLaws.{fits-emptied}
-use Rattle.fdc.proofs.GoodLaws.{four-of, good-power-on, good-after}
+use Rattle.reached.proofs.GoodLaws.{four-of, good-power-on, good-after}
 use Rattle.fdc.proofs.ValidLaws.{Valid, true-valid}
-use Rattle.fdc.proofs.MoveLaws.{reporter-reports}
+use Rattle.reached.proofs.MoveLaws.{reporter-reports}
 use Rattle.fdc.proofs.StandLaws.{tick-stands, stepped-stands}
 use Rattle.demands.specs.Work.{OfBytes, AllOfBytes, Real, atWork}
 use Rattle.demands.specs.Quiet.{ResetQuiet, Proper, AllBytes, Each, StandsStill, Settled, Inner, Quiet}

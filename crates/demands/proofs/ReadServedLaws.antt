@@ -37,13 +37,13 @@ use Rattle.fdc.specs.Answer.{answerOf}
 use Rattle.fdc.specs.Calls.{dmaRead}
 use Rattle.fdc.specs.Commands.{answeredOf}
 use Rattle.fdc.specs.Data.{phaseToHost, dmaReadOf}
-use Rattle.fdc.specs.Good.{Suits}
-use Rattle.fdc.specs.Moves.{tickCount}
+use Rattle.reached.specs.Good.{Suits}
+use Rattle.reached.specs.Moves.{tickCount}
 use Rattle.fdc.specs.Record.{withFifo, withPhase}
 use Rattle.fdc.specs.Registers.{gateIn, dmaIn, motorIn, drqOf}
-use Rattle.fdc.specs.Runs.{Call, takes, ticks, answerTo, after, runCalls}
+use Rattle.reached.specs.Runs.{Call, takes, ticks, answerTo, after, runCalls}
 use Rattle.fdc.specs.Ticks.{settledOf, decidedOf, ruledOf}
-use Rattle.fdc.proofs.GoodLaws.{good-valid}
+use Rattle.reached.proofs.GoodLaws.{good-valid}
 use Rattle.demands.specs.DataError.{Spins}
 use Rattle.demands.specs.HandedOver.{Taken, untaken, tookOne, tookBy, takenBy, takenOver}
 use Rattle.demands.specs.InTime.{AtTicks}

@@ -24,9 +24,9 @@ use Rattle.fdc.specs.Commands.{heedsOf, idledOf, gatheredOf, goesOn, ticksOf, r
 use Rattle.fdc.specs.Data.{offeredOf, writeFifo}
 use Rattle.fdc.specs.Record.{driveAt, withBytes, withDrives, withDrive}
 use Rattle.fdc.specs.Registers.{heldIn, bit, busyBits, anyBusy, msrOf}
-use Rattle.fdc.specs.Runs.{Call, writes, answerTo, after, runCalls, Reached}
-use Rattle.fdc.proofs.GoodLaws.{good-valid}
-use Rattle.fdc.proofs.SeekLaws.{seek-on-time, recalibrate-on-time}
+use Rattle.reached.specs.Runs.{Call, writes, answerTo, after, runCalls, Reached}
+use Rattle.reached.proofs.GoodLaws.{good-valid}
+use Rattle.reached.proofs.SeekLaws.{seek-on-time, recalibrate-on-time}
 use Rattle.demands.specs.EndsInTime.{Completes, byteNo, SeeksOnTime, RecalibratesOnTime}
 use Rattle.demands.specs.Work.{Real}
 use Rattle.demands.specs.Quiet.{Quiet}

@@ -15,8 +15,8 @@ use Rattle.image.specs.declared.slot.Id.{Id}
 use Rattle.image.specs.Disk.{diskIn}
 use Rattle.fdc.specs.declared.record.Controller.{Controller}
 use Rattle.fdc.specs.declared.record.Phase.the-variants.{Starting, Answering}
-use Rattle.fdc.specs.Moves.{AllCalm}
-use Rattle.fdc.specs.Runs.{Call, runCalls}
+use Rattle.reached.specs.Moves.{AllCalm}
+use Rattle.reached.specs.Runs.{Call, runCalls}
 use Rattle.demands.specs.History.{no-one, some-of, History, fresh, historyOf}
 use Rattle.demands.specs.PowerCut.{Writes, Aim, aimNo, passing}
 use Rattle.demands.specs.Work.{atWork, Its, Alone}

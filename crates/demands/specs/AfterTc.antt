@@ -12,7 +12,7 @@ use Rattle.image.specs.Disk.{diskIn}
 use Rattle.sectors.specs.declared.order.Order.{Order}
 use Rattle.sectors.specs.declared.order.Transfer.{Transfer}
 use Rattle.fdc.specs.declared.record.Controller.{Controller}
-use Rattle.fdc.specs.Runs.{Call, runCalls}
+use Rattle.reached.specs.Runs.{Call, runCalls}
 use Rattle.demands.specs.HandedOver.{Reads, untaken, takenBy, takenOver}
 use Rattle.demands.specs.History.{fresh, historyBy, historyOf}
 use Rattle.demands.specs.PowerCut.{Writes}

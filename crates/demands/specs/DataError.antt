@@ -19,9 +19,9 @@ use Rattle.image.specs.Slot.{idAt}
 use Rattle.image.specs.Sound.{Sound}
 use Rattle.fdc.specs.declared.record.Controller.{Controller}
 use Rattle.fdc.specs.declared.record.Phase.the-variants.{Starting, Answering}
-use Rattle.fdc.specs.Moves.{Calm, tickCount}
+use Rattle.reached.specs.Moves.{Calm, tickCount}
 use Rattle.fdc.specs.Registers.{motorIn}
-use Rattle.fdc.specs.Runs.{Call, after}
+use Rattle.reached.specs.Runs.{Call, after}
 use Rattle.demands.specs.Acknowledged.{resultByte, resultId}
 use Rattle.demands.specs.EndsInTime.{boundOf}
 use Rattle.demands.specs.History.{some-of, fresh, historyOf}

@@ -22,9 +22,9 @@ use Rattle.image.specs.Lent.{pickOf}
 use Rattle.fdc.specs.declared.record.Controller.{Controller}
 use Rattle.fdc.specs.declared.record.Phase.the-variants.{Gathering, Starting, Sensing, Answering}
 use Rattle.fdc.specs.Commands.{commandByte, gatheredOf, ticksOf}
-use Rattle.fdc.specs.Moves.{tickCount, OnTime}
+use Rattle.reached.specs.Moves.{tickCount, OnTime}
 use Rattle.fdc.specs.Record.{driveAt}
-use Rattle.fdc.specs.Runs.{Call, writes, ticks, after}
+use Rattle.reached.specs.Runs.{Call, writes, ticks, after}
 use Rattle.fdc.specs.Ticks.{seenOf}
 use Rattle.demands.specs.Work.{Real, Alone, Ends, Anyhow}
 

@@ -16,7 +16,7 @@ use Rattle.image.specs.Layout.{sizeOf, offsetOf, Has, InSlot}
 use Rattle.image.specs.Mark.{byteOf}
 use Rattle.image.specs.Sound.{markIn}
 use Rattle.fdc.specs.declared.record.Controller.{Controller}
-use Rattle.fdc.specs.Runs.{Call}
+use Rattle.reached.specs.Runs.{Call}
 use Rattle.demands.specs.FormatScript.{Formats, slotDraws, slotStores, laidDown, storesOf}
 use Rattle.demands.specs.History.{fresh, historyOf}
 use Rattle.demands.specs.PowerCut.{headOf}

@@ -14,8 +14,8 @@ use Rattle.image.specs.declared.layout.Geometry.{Geometry}
 use Rattle.image.specs.Disk.{diskIn}
 use Rattle.fdc.specs.declared.record.Controller.{Controller}
 use Rattle.fdc.specs.declared.record.Phase.the-variants.{Answering}
-use Rattle.fdc.specs.Moves.{tickCount}
-use Rattle.fdc.specs.Runs.{Call, after, runCalls}
+use Rattle.reached.specs.Moves.{tickCount}
+use Rattle.reached.specs.Runs.{Call, after, runCalls}
 use Rattle.demands.specs.Acknowledged.{resultByte, resultId}
 use Rattle.demands.specs.DataError.{Spins}
 use Rattle.demands.specs.EndsInTime.{boundOf}

@@ -33,7 +33,7 @@ use Rattle.demands.specs.FormatScript.{Formats}
 use Rattle.demands.specs.Work.{Its, Alone, imageLeft}
 use Rattle.sectors.specs.declared.order.Order.{Order}
 use Rattle.sectors.specs.declared.order.Plan.{Plan}
-use Rattle.fdc.specs.Runs.{Call}
+use Rattle.reached.specs.Runs.{Call}
 use Rattle.image.specs.declared.disk.Disk.the-variants.{Present}
 use Rattle.image.specs.Disk.{diskIn}
 

@@ -10,7 +10,7 @@ use Rattle.image.specs.declared.lent.Effect.the-variants.{Nothing, Store}
 use Rattle.fdc.specs.declared.answer.Reply.{Reply}
 use Rattle.fdc.specs.declared.answer.Reply.the-variants.{Done, Byte, Refused}
 use Rattle.fdc.specs.declared.record.Controller.{Controller}
-use Rattle.fdc.specs.Runs.{Call, powers, reads, writes, takes, gives, ticks, notes, answerTo, after}
+use Rattle.reached.specs.Runs.{Call, powers, reads, writes, takes, gives, ticks, notes, answerTo, after}
 use Rattle.fdc.specs.Ticks.{ruledOf}
 
 -- a sector finished: where its mark stands, and the bytes stored

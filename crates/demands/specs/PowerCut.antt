@@ -25,7 +25,7 @@ use Rattle.image.specs.Sound.{markIn}
 use Rattle.fdc.specs.declared.record.Controller.{Controller}
 use Rattle.fdc.specs.declared.record.Phase.the-variants.{Starting}
 use Rattle.fdc.specs.Record.{driveAt}
-use Rattle.fdc.specs.Runs.{Call, runCalls}
+use Rattle.reached.specs.Runs.{Call, runCalls}
 use Rattle.fdc.specs.Ticks.{imageAfter}
 use Rattle.demands.specs.History.{Sector, Begun, no-one, some-of, History, fresh, historyOf}
 use Rattle.demands.specs.Work.{Its, Alone, imageLeft}

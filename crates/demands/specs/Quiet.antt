@@ -14,10 +14,10 @@ use Rattle.sectors.specs.declared.order.Job.the-variants.{Identify, Move, Forma
 use Rattle.fdc.specs.declared.record.Controller.{Controller}
 use Rattle.fdc.specs.declared.record.Phase.{Phase}
 use Rattle.fdc.specs.declared.record.Phase.the-variants.{Idle, Gathering, Starting, Working, Sensing, Answering}
-use Rattle.fdc.specs.Good.{Good}
+use Rattle.reached.specs.Good.{Good}
 use Rattle.fdc.specs.Record.{driveAt, validOf}
 use Rattle.fdc.specs.Registers.{heldIn}
-use Rattle.fdc.specs.Runs.{writes, after}
+use Rattle.reached.specs.Runs.{writes, after}
 use Rattle.demands.specs.Work.{atWork}
 
 -- what an accepted command was told: its drive, its side, and two numbers that are bytes

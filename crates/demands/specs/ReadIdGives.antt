@@ -17,8 +17,8 @@ use Rattle.sectors.specs.declared.order.Order.{Order}
 use Rattle.sectors.specs.Result.{st0Of}
 use Rattle.fdc.specs.declared.record.Controller.{Controller}
 use Rattle.fdc.specs.declared.record.Phase.the-variants.{Starting, Answering}
-use Rattle.fdc.specs.Moves.{tickCount}
-use Rattle.fdc.specs.Runs.{Call}
+use Rattle.reached.specs.Moves.{tickCount}
+use Rattle.reached.specs.Runs.{Call}
 use Rattle.demands.specs.Acknowledged.{resultByte, resultId}
 use Rattle.demands.specs.DataError.{Spins}
 use Rattle.demands.specs.EndsInTime.{boundOf}

@@ -16,9 +16,9 @@ use Rattle.image.specs.Disk.{diskIn}
 use Rattle.image.specs.Lent.{pickOf}
 use Rattle.image.specs.Sound.{Sound}
 use Rattle.fdc.specs.declared.record.Controller.{Controller}
-use Rattle.fdc.specs.Moves.{tickCount}
+use Rattle.reached.specs.Moves.{tickCount}
 use Rattle.fdc.specs.Registers.{gateIn, dmaIn, motorIn}
-use Rattle.fdc.specs.Runs.{Call, after}
+use Rattle.reached.specs.Runs.{Call, after}
 use Rattle.demands.specs.DataError.{Spins}
 use Rattle.demands.specs.EndsInTime.{boundOf}
 use Rattle.demands.specs.HandedOver.{Reads, Taken, untaken, takenBy, IsGood}

@@ -20,7 +20,7 @@ use Rattle.image.specs.Slot.{idAt}
 use Rattle.image.specs.Sound.{markIn}
 use Rattle.fdc.specs.declared.record.Controller.{Controller}
 use Rattle.fdc.specs.declared.record.Phase.the-variants.{Answering}
-use Rattle.fdc.specs.Runs.{Call, runCalls}
+use Rattle.reached.specs.Runs.{Call, runCalls}
 use Rattle.demands.specs.Acknowledged.{doneCount, resultByte}
 use Rattle.demands.specs.HandedOver.{Reads, untaken, takenOver, IsOther}
 use Rattle.demands.specs.History.{Sector, History, fresh, historyOf}

@@ -9,7 +9,7 @@ use Rattle.image.specs.declared.layout.Geometry.{Geometry}
 use Rattle.image.specs.declared.slot.Id.{Id}
 use Rattle.image.specs.Sound.{Sound}
 use Rattle.fdc.specs.declared.record.Controller.{Controller}
-use Rattle.fdc.specs.Runs.{Call}
+use Rattle.reached.specs.Runs.{Call}
 use Rattle.demands.specs.HandedOver.{Reads}
 use Rattle.demands.specs.PowerCut.{Writes}
 use Rattle.demands.specs.Work.{Its, Alone, imageLeft}

@@ -16,8 +16,8 @@ use Rattle.image.specs.declared.slot.Id.{Id}
 use Rattle.image.specs.Disk.{diskIn}
 use Rattle.fdc.specs.declared.record.Controller.{Controller}
 use Rattle.fdc.specs.declared.record.Phase.the-variants.{Answering}
-use Rattle.fdc.specs.Moves.{tickCount}
-use Rattle.fdc.specs.Runs.{Call, after}
+use Rattle.reached.specs.Moves.{tickCount}
+use Rattle.reached.specs.Runs.{Call, after}
 use Rattle.demands.specs.Acknowledged.{resultByte, resultId}
 use Rattle.demands.specs.DataError.{Spins}
 use Rattle.demands.specs.EndsInTime.{boundOf}

@@ -12,7 +12,7 @@ use Rattle.fdc.specs.declared.record.Controller.{Controller}
 use Rattle.fdc.specs.declared.record.Phase.{Phase}
 use Rattle.fdc.specs.declared.record.Phase.the-variants.{Idle, Gathering, Starting, Working, Sensing, Answering}
 use Rattle.fdc.specs.Calls.{powerOn}
-use Rattle.fdc.specs.Runs.{Call, powers, reads, writes, takes, gives, ticks, notes, after, runCalls}
+use Rattle.reached.specs.Runs.{Call, powers, reads, writes, takes, gives, ticks, notes, after, runCalls}
 use Rattle.fdc.specs.Ticks.{imageAfter}
 
 -- the numbers of a call are bytes, as its parameters' types have it

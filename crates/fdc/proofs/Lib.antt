@@ -1,9 +1,3 @@
 pub mod AnswerLaws
-pub mod Examples
-pub mod GoodLaws
-pub mod MoveLaws
-pub mod ResetLaws
-pub mod SeekLaws
 pub mod StandLaws
 pub mod ValidLaws
-pub mod Whole

@@ -2,12 +2,7 @@ pub mod Answer
 pub mod Calls
 pub mod Commands
 pub mod Data
-pub mod Examples
-pub mod Good
-pub mod Moves
 pub mod Record
 pub mod Registers
 pub mod Reset
-pub mod Runs
 pub mod Ticks
-pub mod Whole

@@ -29,7 +29,7 @@ use Rattle.fdc.specs.Data.{offeredOf, writeFifo, dmaWriteOf}
 use Rattle.fdc.specs.Record.{freshOf, withRegisters, withDrives, withFifo, withBytes, withPhase, withDrive, validOf}
 use Rattle.fdc.specs.Registers.{motorIn, busyBits, anyBusy, pendingIn, msrOf, intOf, drqOf}
 use Rattle.fdc.specs.Reset.{resetAll, resetOf, reportAll, releasedBy, releasedOf, withDor, wroteDor}
-use Rattle.fdc.specs.Runs.{answerTo, runCalls}
+use Rattle.reached.specs.Runs.{answerTo, runCalls}
 use Rattle.fdc.specs.Ticks.{seenOf, tickAll, steppedOf, stillOf, settledOf, decidedOf, decideIn, decideOf, ruledOf}
 use Rattle.fdc.specs.Ticks.{startOf as fdc·startOf, workOf as fdc·workOf, tickOf as fdc·tickOf, imageAfter}
 use Rattle.demands.specs.PowerCut.{Writes}

@@ -20,8 +20,8 @@ use Rattle.fdc.specs.declared.record.Controller.{Controller}
 use Rattle.fdc.specs.Calls.{powerOn}
 use Rattle.fdc.specs.Record.{validOf}
 use Rattle.fdc.specs.Registers.{intOf, drqOf}
-use Rattle.fdc.specs.Runs.{Call, powers, reads, writes, takes, gives, notes, answerTo, after, runCalls}
-use Rattle.fdc.specs.Runs.{ticks as one-tick}
+use Rattle.reached.specs.Runs.{Call, powers, reads, writes, takes, gives, notes, answerTo, after, runCalls}
+use Rattle.reached.specs.Runs.{ticks as one-tick}
 use Rattle.fdc.specs.Ticks.{ruledOf, imageAfter}
 use Rattle.demands.specs.Work.{AllOfBytes, Real, Its, imageBy, imageLeft, Handed, Alone}
 use Rattle.demands.proofs.PowerCutLaws.{power-cut}

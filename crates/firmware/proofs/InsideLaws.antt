@@ -18,8 +18,8 @@ use Rattle.fdc.specs.declared.record.Controller.{Controller}
 use Rattle.fdc.specs.Answer.{answerOf}
 use Rattle.fdc.specs.Record.{validOf}
 use Rattle.fdc.specs.Registers.{intOf, drqOf}
-use Rattle.fdc.specs.Runs.{Call, powers, reads, writes, takes, gives, notes, answerTo, after}
-use Rattle.fdc.specs.Runs.{ticks as one-tick}
+use Rattle.reached.specs.Runs.{Call, powers, reads, writes, takes, gives, notes, answerTo, after}
+use Rattle.reached.specs.Runs.{ticks as one-tick}
 use Rattle.fdc.specs.Ticks.{tickOf, ruledOf, imageAfter}
 use Rattle.demands.specs.Work.{imageBy, imageLeft}
 use Rattle.many_ticks.specs.Run.{Ran, ranOf, ticked, changed, changedIn, runOf, startOf, refusedOf, ticksOf}

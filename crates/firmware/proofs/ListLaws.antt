@@ -12,8 +12,8 @@ use Rattle.fdc.specs.declared.answer.Answer.{Answer}
 use Rattle.fdc.specs.declared.record.Controller.{Controller}
 use Rattle.fdc.specs.Answer.{numberIn, answerOf}
 use Rattle.fdc.specs.Record.{withFifo}
-use Rattle.fdc.specs.Runs.{Call, reads, writes, takes, gives, notes, answerTo, after, runCalls}
-use Rattle.fdc.specs.Runs.{ticks as one-tick}
+use Rattle.reached.specs.Runs.{Call, reads, writes, takes, gives, notes, answerTo, after, runCalls}
+use Rattle.reached.specs.Runs.{ticks as one-tick}
 use Rattle.fdc.specs.Ticks.{tickReply}
 use Rattle.demands.specs.Work.{imageLeft}
 use Rattle.answers.specs.Refusals.{keptBy}

@@ -15,8 +15,8 @@ use Rattle.fdc.specs.declared.record.Controller.{Controller}
 use Rattle.fdc.specs.Answer.{valueOf, numberIn, answerOf}
 use Rattle.fdc.specs.Record.{validOf}
 use Rattle.fdc.specs.Registers.{intOf, drqOf}
-use Rattle.fdc.specs.Runs.{Call, answerTo, after, runCalls}
-use Rattle.fdc.specs.Runs.{ticks as one-tick}
+use Rattle.reached.specs.Runs.{Call, answerTo, after, runCalls}
+use Rattle.reached.specs.Runs.{ticks as one-tick}
 use Rattle.fdc.specs.Ticks.{tickReply, tickOf, ruledOf, imageAfter}
 use Rattle.demands.specs.Work.{imageLeft}
 use Rattle.many_ticks.specs.Run.{Ran, ranOf, ticked, changed, changedIn, runOf, startOf, refusedOf, ticksOf}

@@ -25,8 +25,8 @@ use Rattle.fdc.specs.Calls.{portOf, readReg, powerOn, readPort, dmaRead}
 use Rattle.fdc.specs.Data.{readIn, readFifo, dmaReadOf, phaseToHost}
 use Rattle.fdc.specs.Record.{freshOf, validOf, driveAt}
 use Rattle.fdc.specs.Registers.{heldIn, motorIn, dmaIn, bit, busyBits, flowStatus, phaseStatus, msrOf, drqOf, dirOf}
-use Rattle.fdc.specs.Runs.{Call, powers, reads, writes, takes, gives, notes, answerTo}
-use Rattle.fdc.specs.Runs.{ticks as one-tick}
+use Rattle.reached.specs.Runs.{Call, powers, reads, writes, takes, gives, notes, answerTo}
+use Rattle.reached.specs.Runs.{ticks as one-tick}
 use Rattle.demands.specs.Quiet.{AllBytes}
 use Rattle.answers.specs.Refusals.{Row, Given, numberTo, ReadsNothing}
 use Rattle.answers.proofs.RefusalLaws.{refused-exactly}

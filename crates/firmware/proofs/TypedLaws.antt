@@ -58,10 +58,10 @@ use Rattle.fdc.specs.Record.{withPhase, withDrive, validOf}
 use Rattle.fdc.specs.Registers.{heldIn, msrOf, drqOf, anyBusy}
 use Rattle.fdc.specs.Reset.{resetAll, resetOf, reportAll, releasedBy, releasedOf, withDor, withTdr, withRate, wroteDor}
 use Rattle.fdc.specs.Reset.{wroteDsr}
-use Rattle.fdc.specs.Runs.{Call, powers, reads, writes, takes, gives, ticks, notes, answerTo, after, runCalls}
+use Rattle.reached.specs.Runs.{Call, powers, reads, writes, takes, gives, ticks, notes, answerTo, after, runCalls}
 use Rattle.fdc.specs.Ticks.{seenOf, tickAll, steppedOf, sensedAt, stillOf, settledOf, decidedOf, startOf, workOf}
 use Rattle.fdc.specs.Ticks.{decideIn, decideOf, ruledOf, tickOf}
-use Rattle.fdc.proofs.GoodLaws.{four-of}
+use Rattle.reached.proofs.GoodLaws.{four-of}
 use Rattle.fdc.proofs.ValidLaws.{Valid, valid-true, true-valid}
 use Rattle.pack.specs.Back.{DrivesFit, Typed}
 use Rattle.pack.specs.Bytes.{courseOf}

@@ -14,7 +14,7 @@ use Rattle.image.specs.Lent.{storedAs}
 use Rattle.fdc.specs.declared.answer.Answer.{Answer}
 use Rattle.fdc.specs.declared.record.Controller.{Controller}
 use Rattle.fdc.specs.Registers.{intOf, drqOf}
-use Rattle.fdc.specs.Runs.{Call, powers, reads, writes, takes, gives, ticks, notes, after}
+use Rattle.reached.specs.Runs.{Call, powers, reads, writes, takes, gives, ticks, notes, after}
 use Rattle.fdc.specs.Ticks.{ruledOf}
 use Rattle.many_ticks.specs.Run.{Ran, ranOf, changed, ticksOf}
 use Rattle.firmware.specs.Made.{ticksMade}

@@ -10,7 +10,7 @@ use mathlib.Core.Path.{_≡_}
 use lib.ListN.{length, drop}
 use Rattle.fdc.specs.Calls.{powerOn}
 use Rattle.fdc.specs.Record.{freshOf}
-use Rattle.fdc.specs.Runs.{runCalls}
+use Rattle.reached.specs.Runs.{runCalls}
 use Rattle.demands.specs.Quiet.{AllBytes}
 use Rattle.pack.specs.Back.{Holds, Typed}
 use Rattle.pack.specs.Bytes.{recordSize, recordIn, isRecord}

@@ -10,8 +10,8 @@ use Rattle.fdc.specs.declared.record.Controller.{Controller}
 use Rattle.fdc.specs.Answer.{answerOf}
 use Rattle.fdc.specs.Record.{validOf}
 use Rattle.fdc.specs.Registers.{intOf, drqOf}
-use Rattle.fdc.specs.Runs.{Call, powers, reads, writes, takes, gives, notes, answerTo, after, runCalls}
-use Rattle.fdc.specs.Runs.{ticks as one-tick}
+use Rattle.reached.specs.Runs.{Call, powers, reads, writes, takes, gives, notes, answerTo, after, runCalls}
+use Rattle.reached.specs.Runs.{ticks as one-tick}
 use Rattle.fdc.specs.Ticks.{tickReply, imageAfter}
 use Rattle.demands.specs.Work.{imageLeft}
 use Rattle.many_ticks.specs.Run.{changed}

@@ -7,7 +7,7 @@ use mathlib.Core.Path.{_≡_, refl, ap, subst}
 use Rattle.image.specs.Disk.{headerIn, geometryIn, diskIn}
 use Rattle.image.specs.Layout.{sizeOf, trackLength, lengthOf}
 use Rattle.fdc.specs.declared.record.Controller.{Controller}
-use Rattle.fdc.specs.Runs.{Call}
+use Rattle.reached.specs.Runs.{Call}
 use borrow.Author.Needs.{needs}
 use Rattle.image.specs.declared.disk.Disk.the-variants.{Present}
 use Rattle.image.specs.Examples.{disk, sample}

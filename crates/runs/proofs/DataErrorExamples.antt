@@ -14,9 +14,9 @@ use Rattle.image.specs.Sound.{Sound}
 use Rattle.fdc.specs.declared.record.Controller.{Controller}
 use Rattle.fdc.specs.declared.record.Registers.{Registers}
 use Rattle.fdc.specs.declared.record.Phase.the-variants.{Starting}
-use Rattle.fdc.specs.Moves.{tickCount}
+use Rattle.reached.specs.Moves.{tickCount}
 use Rattle.fdc.specs.Registers.{motorIn}
-use Rattle.fdc.specs.Runs.{reads, takes, ticks, after, runCalls}
+use Rattle.reached.specs.Runs.{reads, takes, ticks, after, runCalls}
 use Rattle.fdc.specs.Ticks.{imageAfter}
 use Rattle.runs.specs.CutExamples.{writer, written, sectorOne, ordered, full}
 use Rattle.demands.specs.DataError.{ReadsIt, Spins, DataErrorOrLate}

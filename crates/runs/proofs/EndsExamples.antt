@@ -12,7 +12,7 @@ use borrow.Author.Tests.{ltb-true}
 use Rattle.image.specs.Disk.{diskIn}
 use Rattle.chip.specs.Commands.{entryOf}
 use Rattle.fdc.specs.Commands.{ticksOf}
-use Rattle.fdc.specs.Runs.{runCalls}
+use Rattle.reached.specs.Runs.{runCalls}
 use Rattle.fdc.specs.Ticks.{seenOf}
 use Rattle.image.specs.declared.disk.Disk.the-variants.{Absent, Present}
 use Rattle.image.specs.Disk.{headerOf}
@@ -29,10 +29,10 @@ use Rattle.sectors.specs.declared.order.Pass.{Pass}
 use Rattle.sectors.specs.declared.order.Pass.the-variants.{Read, Write}
 use Rattle.fdc.specs.declared.record.Controller.{Controller}
 use Rattle.fdc.specs.declared.record.Phase.the-variants.{Starting, Sensing, Answering}
-use Rattle.fdc.specs.Examples.{start, command, bare}
-use Rattle.fdc.specs.Moves.{AllCalm, tickCount}
+use Rattle.reached.specs.Examples.{start, command, bare}
+use Rattle.reached.specs.Moves.{AllCalm, tickCount}
 use Rattle.fdc.specs.Record.{driveAt}
-use Rattle.fdc.specs.Runs.{Call, writes, gives, ticks, after}
+use Rattle.reached.specs.Runs.{Call, writes, gives, ticks, after}
 use Rattle.demands.specs.EndsInTime.{boundOf, Completes, byteNo}
 use Rattle.demands.specs.Work.{AllOfBytes, Real, atWork, imageBy, Alone, Ends, Anyhow}
 use Rattle.demands.proofs.EndsLaws.{ends-in-time, ends-in-one, senses-in-one}

@@ -14,10 +14,10 @@ use Rattle.image.specs.Examples.{disk}
 use Rattle.image.specs.Layout.{sizeOf}
 use Rattle.image.proofs.TestLaws.{by-test}
 use Rattle.fdc.specs.declared.record.Controller.{Controller}
-use Rattle.fdc.specs.Examples.{bare}
-use Rattle.fdc.specs.Moves.{tickCount}
+use Rattle.reached.specs.Examples.{bare}
+use Rattle.reached.specs.Moves.{tickCount}
 use Rattle.fdc.specs.Registers.{motorIn}
-use Rattle.fdc.specs.Runs.{Call, powers, reads, writes, takes, gives, ticks, notes, answerTo, after, runCalls}
+use Rattle.reached.specs.Runs.{Call, powers, reads, writes, takes, gives, ticks, notes, answerTo, after, runCalls}
 use Rattle.fdc.specs.Ticks.{ruledOf}
 use Rattle.demands.specs.DataError.{Spins}
 use Rattle.demands.specs.EndsInTime.{boundOf}

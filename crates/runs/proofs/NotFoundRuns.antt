@@ -11,7 +11,7 @@ use Rattle.image.specs.Disk.{diskIn}
 use Rattle.image.specs.Examples.{disk}
 use Rattle.image.specs.Layout.{sizeOf, trackLength, trackAt, offsetOf, Has}
 use Rattle.image.specs.Slot.{idAt}
-use Rattle.fdc.specs.Moves.{tickCount}
+use Rattle.reached.specs.Moves.{tickCount}
 use Rattle.fdc.specs.Registers.{motorIn}
 use Rattle.demands.specs.DataError.{Spins}
 use Rattle.demands.specs.EndsInTime.{boundOf}

@@ -39,7 +39,7 @@ use Rattle.fdc.specs.Record.{freshOf, withRegisters, withDrives, withFifo, with
 use Rattle.fdc.specs.Registers.{motorIn, busyBits, anyBusy, pendingIn, msrOf, intOf, drqOf, dirOf}
 use Rattle.fdc.specs.Reset.{resetAll, resetOf, reportAll, releasedBy, releasedOf, withDor, withTdr, withRate}
 use Rattle.fdc.specs.Reset.{wroteDor, wroteDsr}
-use Rattle.fdc.specs.Runs.{answerTo, runCalls}
+use Rattle.reached.specs.Runs.{answerTo, runCalls}
 use Rattle.fdc.specs.Ticks.{seenOf, tickAll, steppedOf, st3Of, sensedAt, stillOf, settledOf, decidedOf}
 use Rattle.fdc.specs.Ticks.{startOf as fdc·startOf, workOf as fdc·workOf, decideIn, decideOf, ruledOf}
 use Rattle.fdc.specs.Ticks.{tickOf as fdc·tickOf, imageAfter}

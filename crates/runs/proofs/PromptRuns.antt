@@ -8,9 +8,9 @@ use mathlib.Core.Path.{_≡_, refl, sym, ap, _∙_}
 use Rattle.image.specs.Examples.{disk}
 use Rattle.image.specs.Sound.{Sound}
 use Rattle.fdc.specs.declared.record.Phase.the-variants.{Answering}
-use Rattle.fdc.specs.Moves.{tickCount}
+use Rattle.reached.specs.Moves.{tickCount}
 use Rattle.fdc.specs.Registers.{motorIn}
-use Rattle.fdc.specs.Runs.{runCalls}
+use Rattle.reached.specs.Runs.{runCalls}
 use Rattle.demands.specs.EndsInTime.{boundOf}
 use Rattle.demands.specs.Work.{atWork}
 use Rattle.runs.specs.Host.{idle, double}

@@ -14,7 +14,7 @@ use Rattle.image.specs.Layout.{sizeOf, trackLength, trackAt, offsetOf, Has}
 use Rattle.image.specs.Slot.{idAt}
 use Rattle.image.specs.Sound.{markIn}
 use Rattle.engine.specs.Examples.{chr}
-use Rattle.fdc.specs.Moves.{tickCount}
+use Rattle.reached.specs.Moves.{tickCount}
 use Rattle.fdc.specs.Registers.{motorIn}
 use Rattle.demands.specs.DataError.{Spins}
 use Rattle.demands.specs.EndsInTime.{boundOf}

@@ -7,7 +7,7 @@ use mathlib.Core.List.{List, [], _∷_, _++_}
 use mathlib.Core.Logic.{inl, inr}
 use mathlib.Core.Path.{_≡_, refl, ap}
 use lib.ListN.{set}
-use Rattle.fdc.specs.Runs.{Call, reads, writes, takes, gives, ticks}
+use Rattle.reached.specs.Runs.{Call, reads, writes, takes, gives, ticks}
 use Rattle.image.specs.declared.slot.Id.{Id}
 use Rattle.answers.specs.Results.{drained, stored, skipped}
 use Rattle.runs.specs.RowRuns.{given, box, on, reading, writing, move, format, marks, RowRuns}

@@ -18,10 +18,10 @@ use Rattle.fdc.specs.Answer.{answerOf}
 use Rattle.fdc.specs.Calls.{dmaRead, dmaWrite}
 use Rattle.fdc.specs.Commands.{answeredOf, saidOf}
 use Rattle.fdc.specs.Data.{phaseToHost, phaseFromHost, dmaReadOf, dmaWriteOf}
-use Rattle.fdc.specs.Moves.{tickOne, tickCount}
+use Rattle.reached.specs.Moves.{tickOne, tickCount}
 use Rattle.fdc.specs.Record.{withDrives, withFifo, withPhase, validOf}
 use Rattle.fdc.specs.Registers.{heldIn, motorIn, drqOf}
-use Rattle.fdc.specs.Runs.{Call, powers, reads, writes, takes, gives, ticks, notes, answerTo, after, runCalls}
+use Rattle.reached.specs.Runs.{Call, powers, reads, writes, takes, gives, ticks, notes, answerTo, after, runCalls}
 use Rattle.fdc.specs.Ticks.{steppedOf, sensedAt, stillOf, settledOf, decidedOf, decideIn, decideOf, ruledOf}
 use Rattle.fdc.specs.Ticks.{startOf as fdc·startOf, workOf as fdc·workOf, tickOf as fdc·tickOf}
 use Rattle.demands.specs.DataError.{Spins}

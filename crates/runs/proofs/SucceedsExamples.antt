@@ -16,9 +16,9 @@ use Rattle.image.specs.Examples.{disk, sample}
 use Rattle.image.specs.Layout.{sizeOf, trackLength, lengthOf, trackAt, offsetOf}
 use Rattle.chip.specs.Next.{advancedOf}
 use Rattle.fdc.specs.declared.record.Controller.{Controller}
-use Rattle.fdc.specs.Moves.{AllCalm, tickCount}
+use Rattle.reached.specs.Moves.{AllCalm, tickCount}
 use Rattle.fdc.specs.Registers.{motorIn}
-use Rattle.fdc.specs.Runs.{Call, ticks, answerTo, after}
+use Rattle.reached.specs.Runs.{Call, ticks, answerTo, after}
 use Rattle.fdc.specs.Ticks.{imageAfter}
 use Rattle.demands.specs.DataError.{Spins}
 use Rattle.demands.specs.EndsInTime.{boundOf}

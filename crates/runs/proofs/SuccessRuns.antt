@@ -14,7 +14,7 @@ use Rattle.image.specs.Examples.{disk}
 use Rattle.chip.specs.Next.{advancedOf}
 use Rattle.image.specs.Layout.{sizeOf, trackLength, trackAt, offsetOf}
 use Rattle.fdc.specs.declared.record.Controller.{Controller}
-use Rattle.fdc.specs.Runs.{Call, after}
+use Rattle.reached.specs.Runs.{Call, after}
 use Rattle.demands.specs.EndsInTime.{boundOf}
 use Rattle.demands.specs.HandedOver.{Reads, Taken, untaken, takenBy, IsGood}
 use Rattle.demands.specs.History.{History, fresh, historyBy}

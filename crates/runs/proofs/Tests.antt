@@ -8,7 +8,7 @@ use lib.Dec.{ltb}
 use borrow.Author.Tests.{ltb-true}
 use Rattle.image.proofs.TestLaws.{both}
 use Rattle.fdc.specs.declared.record.Controller.{Controller}
-use Rattle.fdc.specs.Runs.{Call, powers, reads, writes, takes, gives, ticks, notes, after}
+use Rattle.reached.specs.Runs.{Call, powers, reads, writes, takes, gives, ticks, notes, after}
 use Rattle.demands.specs.InTime.{AtTick, AtTicks, RequestOff, Prompt}
 use Rattle.demands.specs.Work.{OfBytes, AllOfBytes, atWork, Its}
 

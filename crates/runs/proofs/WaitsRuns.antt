@@ -7,8 +7,8 @@ use mathlib.Core.Path.{_≡_, refl}
 use lib.ListN.{set}
 use Rattle.sectors.specs.declared.order.Order.{Order}
 use Rattle.fdc.specs.declared.record.Phase.the-variants.{Starting}
-use Rattle.fdc.specs.Moves.{AllCalm}
-use Rattle.fdc.specs.Runs.{Call, runCalls}
+use Rattle.reached.specs.Moves.{AllCalm}
+use Rattle.reached.specs.Runs.{Call, runCalls}
 use Rattle.demands.specs.Work.{atWork}
 use Rattle.demands.proofs.AcknowledgedLaws.{result-waits}
 use Rattle.runs.specs.RowRuns.{box, given, move, format, marks, on, writing}

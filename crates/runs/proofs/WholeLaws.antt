@@ -19,7 +19,7 @@ use Rattle.fdc.specs.declared.record.Controller.{Controller}
 use Rattle.fdc.specs.declared.record.Phase.{Phase}
 use Rattle.fdc.specs.declared.record.Phase.the-variants.{Starting, Answering}
 use Rattle.fdc.specs.Answer.{answerOf}
-use Rattle.fdc.specs.Runs.{Call, powers, reads, writes, takes, gives, ticks, notes, answerTo, after, runCalls}
+use Rattle.reached.specs.Runs.{Call, powers, reads, writes, takes, gives, ticks, notes, answerTo, after, runCalls}
 use Rattle.fdc.specs.Ticks.{ruledOf, tickOf, imageAfter}
 use Rattle.demands.specs.Acknowledged.{resultByte, resultId, Acknowledges}
 use Rattle.demands.specs.HandedOver.{Reads, HandedBy, Taken, untaken, tookBy, takenBy, takenOver}

@@ -8,8 +8,8 @@ use lib.ListN.{take, drop, replicate}
 use Rattle.image.specs.Examples.{disk, sample}
 use Rattle.sectors.specs.declared.order.Pass.the-variants.{Write}
 use Rattle.sectors.specs.declared.order.Transfer.{Transfer}
-use Rattle.fdc.specs.Examples.{command, bare}
-use Rattle.fdc.specs.Runs.{Call, gives}
+use Rattle.reached.specs.Examples.{command, bare}
+use Rattle.reached.specs.Runs.{Call, gives}
 use Rattle.demands.specs.History.{no-one, some-of}
 use Rattle.runs.specs.CutExamples.{down, full}
 use Rattle.runs.specs.Host.{moving, idle, poured, times, trackOf, imageOf, quad}

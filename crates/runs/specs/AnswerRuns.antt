@@ -13,9 +13,9 @@ use Rattle.drive.specs.declared.Motion.the-variants.{Seeking}
 use Rattle.drive.specs.Drive.{firstWait}
 use Rattle.fdc.specs.declared.record.Controller.{Controller}
 use Rattle.fdc.specs.Commands.{ticksOf}
-use Rattle.fdc.specs.Examples.{command}
+use Rattle.reached.specs.Examples.{command}
 use Rattle.fdc.specs.Record.{driveAt}
-use Rattle.fdc.specs.Runs.{writes}
+use Rattle.reached.specs.Runs.{writes}
 use Rattle.answers.specs.Accepts.{Ready, Moves, Begun, Refuses, Configured, afterBytes}
 use Rattle.answers.specs.CommandResults.{NoneBusy}
 use Rattle.answers.specs.OnlyWrites.{Storing, suitedIn, Locked, AllHanded}

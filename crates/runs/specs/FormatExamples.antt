@@ -6,7 +6,7 @@ use mathlib.Core.List.{List, [], _∷_, _++_}
 use lib.ListN.{replicate}
 use Rattle.image.specs.Examples.{disk}
 use Rattle.sectors.specs.declared.order.Job.the-variants.{Format}
-use Rattle.fdc.specs.Examples.{bare}
+use Rattle.reached.specs.Examples.{bare}
 use Rattle.runs.specs.Host.{idle, poured, contents, imageOf, double}
 use Rattle.runs.specs.Whole.{Given, FormatRun}
 

@@ -8,8 +8,8 @@ use mathlib.Core.Path.{_≡_}
 use lib.ListN.{length}
 use Rattle.image.specs.Examples.{disk}
 use Rattle.sectors.specs.declared.order.Plan.{Plan}
-use Rattle.fdc.specs.Moves.{tickCount}
-use Rattle.fdc.specs.Runs.{runCalls}
+use Rattle.reached.specs.Moves.{tickCount}
+use Rattle.reached.specs.Runs.{runCalls}
 use Rattle.demands.specs.DataError.{Spins}
 use Rattle.demands.specs.EndsInTime.{boundOf}
 use Rattle.demands.specs.FormatScript.{Formats, Stored, applied, scriptOf, storesOf, Allowed, FormattedBy}

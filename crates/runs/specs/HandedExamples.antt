@@ -8,8 +8,8 @@ use lib.ListN.{take}
 use Rattle.image.specs.Examples.{disk}
 use Rattle.sectors.specs.declared.order.Pass.the-variants.{Read}
 use Rattle.sectors.specs.declared.order.Transfer.{Transfer}
-use Rattle.fdc.specs.Examples.{bare}
-use Rattle.fdc.specs.Runs.{reads, takes}
+use Rattle.reached.specs.Examples.{bare}
+use Rattle.reached.specs.Runs.{reads, takes}
 use Rattle.demands.specs.History.{no-one}
 use Rattle.runs.specs.Host.{moving, idle, taken, fetched, times, contents, trackOf, imageOf, quad, double}
 use Rattle.runs.specs.Whole.{Given, Outcome, waiting, ReadRun, Served}

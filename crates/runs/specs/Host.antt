@@ -10,8 +10,8 @@ use Rattle.image.specs.Examples.{disk}
 use Rattle.sectors.specs.declared.order.Job.the-variants.{Move}
 use Rattle.sectors.specs.declared.order.Order.{Order}
 use Rattle.sectors.specs.declared.order.Transfer.{Transfer}
-use Rattle.fdc.specs.Examples.{bare}
-use Rattle.fdc.specs.Runs.{Call, reads, takes, gives}
+use Rattle.reached.specs.Examples.{bare}
+use Rattle.reached.specs.Runs.{Call, reads, takes, gives}
 use Rattle.runs.specs.CutExamples.{down}
 
 -- a read or a write of a drive and side, from the sector C H R N on

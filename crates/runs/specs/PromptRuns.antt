@@ -9,9 +9,9 @@ use mathlib.Core.Path.{_≡_}
 use lib.ListN.{replicate}
 use Rattle.image.specs.Examples.{disk}
 use Rattle.image.specs.Sound.{Sound}
-use Rattle.fdc.specs.Examples.{bare}
-use Rattle.fdc.specs.Moves.{tickCount}
-use Rattle.fdc.specs.Runs.{takes}
+use Rattle.reached.specs.Examples.{bare}
+use Rattle.reached.specs.Moves.{tickCount}
+use Rattle.reached.specs.Runs.{takes}
 use Rattle.demands.specs.DataError.{Spins}
 use Rattle.demands.specs.EndsInTime.{boundOf}
 use Rattle.demands.specs.History.{no-one}

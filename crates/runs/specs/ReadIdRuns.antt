@@ -12,7 +12,7 @@ use Rattle.image.specs.Disk.{diskIn}
 use Rattle.image.specs.Examples.{disk}
 use Rattle.sectors.specs.declared.order.Job.the-variants.{Identify}
 use Rattle.engine.specs.Examples.{chr}
-use Rattle.fdc.specs.Moves.{tickCount}
+use Rattle.reached.specs.Moves.{tickCount}
 use Rattle.demands.specs.DataError.{Spins}
 use Rattle.demands.specs.EndsInTime.{boundOf}
 use Rattle.demands.specs.PowerCut.{headOf}

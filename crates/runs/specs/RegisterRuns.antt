@@ -5,10 +5,10 @@ use Prim.Native.Nat.{ℕ}
 use mathlib.Core.Bool.{true, false}
 use mathlib.Core.List.{List, [], _∷_, _++_}
 use mathlib.Core.Path.{_≡_}
-use Rattle.fdc.specs.Examples.{command}
+use Rattle.reached.specs.Examples.{command}
 use Rattle.fdc.specs.Record.{driveAt}
 use Rattle.fdc.specs.Registers.{intOf, drqOf}
-use Rattle.fdc.specs.Runs.{Call, reads, writes, ticks, notes}
+use Rattle.reached.specs.Runs.{Call, reads, writes, ticks, notes}
 use Rattle.answers.specs.Registers.{readsAs}
 use Rattle.runs.specs.RowRuns.{box, given, move, format, marks, on}
 

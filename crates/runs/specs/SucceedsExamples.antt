@@ -4,7 +4,7 @@
 -- Assumes nothing.
 use mathlib.Core.Bool.{true, false}
 use mathlib.Core.List.{List, _++_}
-use Rattle.fdc.specs.Runs.{Call}
+use Rattle.reached.specs.Runs.{Call}
 use Rattle.demands.specs.PowerCut.{Aim}
 use Rattle.demands.specs.Succeeds.{Success, PastEot}
 use Rattle.demands.specs.Work.{Ends}

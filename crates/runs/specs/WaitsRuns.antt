@@ -8,8 +8,8 @@ use lib.ListN.{set}
 use Rattle.sectors.specs.declared.order.Order.{Order}
 use Rattle.fdc.specs.declared.record.Controller.{Controller}
 use Rattle.fdc.specs.declared.record.Phase.the-variants.{Starting, Answering}
-use Rattle.fdc.specs.Moves.{AllCalm}
-use Rattle.fdc.specs.Runs.{Call, runCalls}
+use Rattle.reached.specs.Moves.{AllCalm}
+use Rattle.reached.specs.Runs.{Call, runCalls}
 use Rattle.demands.specs.Work.{Real, atWork, Its}
 use Rattle.runs.specs.RowRuns.{box, given, move, format, marks, on, writing}
 

@@ -18,8 +18,8 @@ use Rattle.fdc.specs.declared.record.Controller.{Controller}
 use Rattle.fdc.specs.declared.record.Phase.{Phase}
 use Rattle.fdc.specs.declared.record.Phase.the-variants.{Starting, Answering}
 use Rattle.fdc.specs.Calls.{powerOn}
-use Rattle.fdc.specs.Examples.{command}
-use Rattle.fdc.specs.Runs.{Call, powers, reads, writes, takes, gives, ticks, notes, after, runCalls}
+use Rattle.reached.specs.Examples.{command}
+use Rattle.reached.specs.Runs.{Call, powers, reads, writes, takes, gives, ticks, notes, after, runCalls}
 use Rattle.demands.specs.HandedOver.{Reads, Taken, untaken, takenOver}
 use Rattle.demands.specs.History.{Sector, Begun, no-one, History, fresh, historyOf}
 use Rattle.demands.specs.InTime.{Prompt}

@@ -23,25 +23,25 @@ use Rattle.drive.specs.Due.{Goes}
 use Rattle.drive.specs.Step.{tickOf as tickDrive}
 use Rattle.sectors.specs.declared.work.Then.{Then}
 use Rattle.sectors.specs.declared.work.Then.the-variants.{Ends, Works}
 use Rattle.fdc.specs.declared.record.Controller.{Controller}
 use Rattle.fdc.specs.declared.record.Phase.{Phase}
 use Rattle.fdc.specs.declared.record.Phase.the-variants.{Idle, Gathering, Starting, Working, Sensing, Answering}
 use Rattle.fdc.specs.declared.answer.Answer.{Answer}
 use Rattle.fdc.specs.declared.ports.Port.{Port}
 use Rattle.fdc.specs.declared.ports.Port.the-variants.{None, Dor, Tdr, Status, Data, Input}
 use Rattle.fdc.specs.declared.ticks.Decision.{Decision}
 use Rattle.fdc.specs.Answer.{answerOf}
 use Rattle.fdc.specs.Calls.{portOf, readReg, writeReg, readPort, writePort, dmaRead, dmaWrite, noteChange}
 use Rattle.fdc.specs.Commands.{answeredOf, saidOf, saidTwo, idledOf, commandByte, lowest, reporterOf, sensedOf, soughtOf, recalibratedOf, ranOf, runOf, heedsOf, gatheredOf, goesOn, begunOf}
 use Rattle.fdc.specs.Data.{resultTaken, readIn, readFifo, offeredOf, writeFifo, dmaReadOf, dmaWriteOf, phaseToHost, phaseFromHost}
-use Rattle.fdc.specs.Moves.{Calm, AllCalm, tickOne, tickCount, Awake, Same, OnTime}
+use Rattle.reached.specs.Moves.{Calm, AllCalm, tickOne, tickCount, Awake, Same, OnTime}
 use Rattle.fdc.specs.Record.{driveAt, withRegisters, withDrives, withFifo, withBytes, withPhase, withDrive, validOf}
 use Rattle.fdc.specs.Registers.{heldIn, msrOf, drqOf, anyBusy}
 use Rattle.fdc.specs.Reset.{withDor, withTdr, withRate, wroteDor, wroteDsr}
-use Rattle.fdc.specs.Runs.{Call, powers, reads, writes, takes, gives, ticks, notes, answerTo, after, runCalls}
+use Rattle.reached.specs.Runs.{Call, powers, reads, writes, takes, gives, ticks, notes, answerTo, after, runCalls}
 use Rattle.fdc.specs.Ticks.{seenOf, presentIn, tickAll, steppedOf, sensedAt, stillOf, settledOf, decidedOf, startOf, workOf, decideIn, decideOf, ruledOf, tickOf}
-use Rattle.fdc.specs.Good.{Good}
-use Rattle.fdc.proofs.GoodLaws.{good-valid, good-after}
+use Rattle.reached.specs.Good.{Good}
+use Rattle.reached.proofs.GoodLaws.{good-valid, good-after}
 
 same-refl : (d : Drive) → Same d d
 same-refl d = record { head = refl; pcn = refl; busy = refl; report = refl; motion = refl }

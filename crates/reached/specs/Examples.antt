@@ -5,11 +5,11 @@ use Prim.Native.Nat.{ℕ}
 use mathlib.Core.Bool.{Bool, true, false}
 use mathlib.Core.List.{List, [], _∷_, _++_}
 use mathlib.Core.Path.{_≡_}
 use Rattle.fdc.specs.declared.record.Controller.{Controller}
 use Rattle.fdc.specs.declared.answer.Answer.{Answer}
 use Rattle.fdc.specs.Answer.{valueOf, numberIn}
 use Rattle.fdc.specs.Calls.{powerOn}
-use Rattle.fdc.specs.Runs.{Call, reads, writes, ticks, answerTo, after, runCalls}
+use Rattle.reached.specs.Runs.{Call, reads, writes, ticks, answerTo, after, runCalls}
 
 -- a line of a log: the refusal's number, the value, INT, DRQ
 pub record Line : Type 0 where

@@ -1,7 +1,7 @@
 -- 01 Example 8, 01 Example 9, and document 01's port log, by computation.
 -- Assumes nothing.
 use mathlib.Core.Path.{refl}
-use Rattle.fdc.specs.Examples.{Examples}
+use Rattle.reached.specs.Examples.{Examples}
 use Rattle.image.specs.Disk.{headerIn, geometryIn, diskIn}
 use Rattle.image.specs.Layout.{sizeOf, trackLength, lengthOf, trackAt, offsetOf, sameOf}
 use Rattle.image.specs.Mark.{markOf}
@@ -19,15 +19,15 @@ use Rattle.sectors.specs.Search.{notFound, missedOf, readFound, dataFound, bare
 use Rattle.engine.specs.Step.{lostOf, stageOf, workOf, goOnOf}
 use Rattle.sectors.specs.Track.{hasTrack, staysOf, markPlace, dataPlace}
 use Rattle.sectors.specs.Write.{underrun, awaitOf, putOf, dryOf, writtenOf, storeOf}
 use Rattle.fdc.specs.Answer.{answerOf}
 use Rattle.fdc.specs.Calls.{portOf, readReg, writeReg, powerOn, readPort, writePort, dmaRead, dmaWrite, noteChange}
 use Rattle.fdc.specs.Commands.{answeredOf, saidOf, saidTwo, idledOf, specifyOf, configureOf, sensingOf, reporterOf, sensedOf, soughtOf, recalibratedOf, moveOrder, formatOrder, identifyOrder, startedOf, ranOf, runOf, gatheredOf, goesOn, begunOf}
 use Rattle.fdc.specs.Data.{resultTaken, readIn, readFifo, offeredOf, writeFifo, dmaReadOf, dmaWriteOf}
 use Rattle.fdc.specs.Record.{freshOf, withRegisters, withDrives, withFifo, withBytes, withPhase, withDrive, validOf}
 use Rattle.fdc.specs.Registers.{motorIn, busyBits, anyBusy, pendingIn, msrOf, intOf, drqOf, dirOf}
 use Rattle.fdc.specs.Reset.{resetAll, resetOf, reportAll, releasedBy, releasedOf, withDor, withTdr, withRate, wroteDor, wroteDsr}
-use Rattle.fdc.specs.Runs.{answerTo, runCalls}
+use Rattle.reached.specs.Runs.{answerTo, runCalls}
 use Rattle.fdc.specs.Ticks.{seenOf, tickAll, steppedOf, st3Of, sensedAt, stillOf, settledOf, decidedOf, startOf as fdc·startOf, workOf as fdc·workOf, decideIn, decideOf, ruledOf, tickOf as fdc·tickOf, imageAfter}
 
 pub examples : Examples
 unfolding headerIn geometryIn diskIn sizeOf trackLength lengthOf trackAt offsetOf sameOf markOf kindOf entryOf

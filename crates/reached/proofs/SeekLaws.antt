@@ -14,14 +14,14 @@ use Rattle.drive.specs.declared.Motion.the-variants.{Seeking, Recalibrating}
 use Rattle.drive.specs.Drive.{distance, recalibrateSteps, seekOf, recalibrateOf}
 use Rattle.drive.specs.Due.{headAfter, overAfter, Seeks, Recalibrates, Over, recalibrateReport}
 use Rattle.drive.proofs.StepLaws.{seek-begins, seek-goes-on, seek-ends, recalibrate-begins, recalibrate-goes-on, recalibrate-ends}
 use Rattle.fdc.specs.declared.record.Controller.{Controller}
 use Rattle.fdc.specs.Commands.{idledOf, commandByte, ticksOf, soughtOf, recalibratedOf}
-use Rattle.fdc.specs.Moves.{Awake, OnTime}
+use Rattle.reached.specs.Moves.{Awake, OnTime}
 use Rattle.fdc.specs.Record.{driveAt, withDrives, withDrive}
 use Rattle.fdc.specs.Registers.{heldIn}
-use Rattle.fdc.specs.Runs.{Reached}
-use Rattle.fdc.proofs.GoodLaws.{good-reached}
-use Rattle.fdc.proofs.MoveLaws.{goes-same, on-time}
+use Rattle.reached.specs.Runs.{Reached}
+use Rattle.reached.proofs.GoodLaws.{good-reached}
+use Rattle.reached.proofs.MoveLaws.{goes-same, on-time}
 
 -- 01 Stepping: a complete Seek or Recalibrate of a drive that is not busy is accepted
 module _ (c : Controller) (long : length (c .drives) ≡ 4) where

@@ -8,11 +8,11 @@ use mathlib.Core.Path.{_≡_}
 use lib.Dec.{eqb}
 use Rattle.chip.specs.Stepping.{stepTicks}
 use Rattle.drive.specs.declared.Drive.{Drive}
 use Rattle.fdc.specs.declared.record.Controller.{Controller}
 use Rattle.fdc.specs.declared.record.Registers.{Registers}
 use Rattle.fdc.specs.Record.{driveAt}
 use Rattle.fdc.specs.Registers.{heldIn}
-use Rattle.fdc.specs.Runs.{Call, powers, reads, writes, takes, gives, ticks, notes, after, runCalls}
+use Rattle.reached.specs.Runs.{Call, powers, reads, writes, takes, gives, ticks, notes, after, runCalls}
 
 -- no power-on, no DOR with bit 2 low, no DSR with bit 7
 abbrev pub Calm : Call → Type 0

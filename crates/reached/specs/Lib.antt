@@ -1,0 +1,5 @@
+pub mod Examples
+pub mod Good
+pub mod Moves
+pub mod Runs
+pub mod Whole
