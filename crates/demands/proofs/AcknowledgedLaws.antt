@@ -17,12 +17,12 @@ use Rattle.fdc.specs.declared.ticks.Decision.{Decision}
 use Rattle.fdc.specs.Commands.{answeredOf}
 use Rattle.reached.specs.Moves.{Calm, AllCalm}
 use Rattle.fdc.specs.Record.{withFifo, withPhase}
-use Rattle.reached.specs.Runs.{Call, powers, reads, writes, takes, gives, ticks, notes, after, runCalls}
+use Rattle.fdc.specs.Runs.{Call, ticks, after, runCalls}
 use Rattle.fdc.specs.Ticks.{settledOf, decidedOf, ruledOf}
 use Rattle.demands.specs.Acknowledged.{Acknowledged, ResultWaits}
 use Rattle.demands.specs.Work.{atWork, Its, Real}
 use Rattle.demands.proofs.CallLaws.{tick-starts, tick-works, calm-keeps, after-tick}
-use Rattle.demands.proofs.CallRules.{NoTick}
+use Rattle.demands.proofs.SplitLaws.{tick-or-not}
 use Rattle.demands.specs.Quiet.{Quiet}
 use Rattle.demands.proofs.PowerCutLaws.{run-told, ran}
 use Rattle.demands.proofs.QuietLaws.{quiet-real, quiet-after}
@@ -59,19 +59,11 @@ phase-said a b c (Sensing unit) e w q = absurd (false≢true w)
 phase-said a b c (Answering loud) e w q = absurd (false≢true w)
 
 call-said : (call : Call) (c : Controller) → Quiet c → atWork (c .phase) ≡ true → Calm call → OnOrSaid (after call c)
-call-said call c q w calm = go call calm
-  where
-    kept : (call : Call) → NoTick call → Calm call → OnOrSaid (after call c)
-    kept call n calm = inl (ap atWork (calm-keeps call c q w n calm .phase) ∙ w)
-
-    go : (call : Call) → Calm call → OnOrSaid (after call c)
-    go (powers head0 head1) calm = kept (powers head0 head1) tt calm
-    go (reads offset) calm = kept (reads offset) tt calm
-    go (writes offset byte) calm = kept (writes offset byte) tt calm
-    go (takes tc) calm = kept (takes tc) tt calm
-    go (gives byte tc) calm = kept (gives byte tc) tt calm
-    go (ticks a b) calm = phase-said a b c (c .phase) refl w q
-    go (notes drive) calm = kept (notes drive) tt calm
+call-said call c q w calm =
+    tick-or-not
+    (λ x. Calm x → OnOrSaid (after x c))
+    (λ a b calm. phase-said a b c (c .phase) refl w q)
+    (λ x n calm. inl (ap atWork (calm-keeps x c q w n calm .phase) ∙ w)) call calm
 
 run-said : (calls : List Call) (c : Controller) → Quiet c → OnOrSaid c → Its calls c → AllCalm calls
     → OnOrSaid (runCalls calls c)

@@ -24,6 +24,7 @@ use Rattle.demands.specs.Quiet.{Quiet}
 use Rattle.demands.specs.Work.{Real, atWork, Its, Alone, imageLeft}
 use Rattle.demands.proofs.CallLaws.{call-rule, taken-rule}
 use Rattle.demands.proofs.CallRules.{same, took, gave, TakenRule, none-taken, one-taken}
+use Rattle.demands.proofs.SplitLaws.{tick-or-not, taking-or-not, none-handed}
 use Rattle.demands.proofs.CallRules.{CallRule, cut-off, goes-on}
 use Rattle.demands.proofs.LeftLaws.{noted-host}
 use Rattle.demands.proofs.HandedOverLaws as handing
@@ -48,42 +49,32 @@ quiet-its (call ∷ calls) c q i = quiet-its calls (after call c) (quiet-after c
 -- with the request off no call takes a byte from the box
 none-taken-off : (call : Call) (c : Controller) (t : Taken) → Quiet c → atWork (c .phase) ≡ true
     → c .fifo .asks ≡ false → takenBy call c t ≡ t
-unfolding takenBy
-none-taken-off call c t q w off = go call
+none-taken-off call c t q w off =
+    taking-or-not
+    (λ x. takenBy x c t ≡ t)
+    (λ a b. none-handed (ticks a b) c t (λ m. m))
+    (λ x n may. by x (taken-rule c q w x may))
+    (λ x n bare. none-handed x c t bare) call
   where
     by : (call : Call) → TakenRule call c (after call c) → takenBy call c t ≡ t
     by call (none-taken f n) = n t
     by call (one-taken tc h a f n) = absurd (true≢false (sym a ∙ off))
 
-    go : (call : Call) → takenBy call c t ≡ t
-    go (powers head0 head1) = refl
-    go (reads offset) = by (reads offset) (taken-rule c q w (reads offset) tt)
-    go (writes offset byte) = refl
-    go (takes tc) = by (takes tc) (taken-rule c q w (takes tc) tt)
-    go (gives byte tc) = refl
-    go (ticks a b) = refl
-    go (notes drive) = refl
-
 -- nor gives it one
 none-given-off : (call : Call) (c : Controller) (h : History) → Quiet c → atWork (c .phase) ≡ true
     → c .fifo .asks ≡ false → historyBy call c h .host ≡ h .host
 unfolding historyBy
-none-given-off call c h q w off = go call
+none-given-off call c h q w off =
+    tick-or-not
+    (λ x. historyBy x c h .host ≡ h .host)
+    (λ a b. noted-host (ruledOf a b c .effect) h)
+    (λ x n. by x (call-rule x c q w n)) call
   where
     by : (call : Call) → CallRule call c (after call c) → historyBy call c h .host ≡ h .host
     by call (cut-off o n) = ap (λ (x : History). x .host) (n h)
     by call (goes-on k (same f n)) = ap (λ (x : History). x .host) (n h)
     by call (goes-on k (took tc m p f n)) = ap (λ (x : History). x .host) (n h)
     by call (goes-on k (gave byte tc p a f n)) = absurd (true≢false (sym a ∙ off))
-
-    go : (call : Call) → historyBy call c h .host ≡ h .host
-    go (powers head0 head1) = refl
-    go (reads offset) = refl
-    go (writes offset byte) = by (writes offset byte) (call-rule (writes offset byte) c q w tt)
-    go (takes tc) = refl
-    go (gives byte tc) = by (gives byte tc) (call-rule (gives byte tc) c q w tt)
-    go (ticks a b) = noted-host (ruledOf a b c .effect) h
-    go (notes drive) = refl
 
 not-on : (b : Bool) → (b ≡ true → ⊥) → b ≡ false
 not-on true n = absurd (n refl)

@@ -10,12 +10,13 @@ use Rattle.image.specs.Lent.{pickOf}
 use Rattle.fdc.specs.declared.record.Controller.{Controller}
 use Rattle.reached.specs.Moves.{Calm}
 use Rattle.fdc.specs.Registers.{motorIn}
-use Rattle.reached.specs.Runs.{Call, powers, reads, writes, takes, gives, ticks, notes, after}
+use Rattle.fdc.specs.Runs.{Call, ticks, after}
 use Rattle.demands.specs.DataError.{Spins}
 use Rattle.demands.specs.InTime.{AtTick, AtTicks}
 use Rattle.demands.specs.Quiet.{Proper, Quiet}
 use Rattle.demands.specs.Work.{atWork, imageBy, Handed, Alone, Ends, Anyhow}
 use Rattle.demands.proofs.CallRules.{NoTick}
+use Rattle.demands.proofs.SplitLaws.{tick-or-not, at-tick, image-same}
 use Rattle.demands.proofs.QuietLaws.{quiet-after}
 use Rattle.image.specs.declared.layout.Geometry.{Geometry}
 use Rattle.image.specs.declared.lent.Effect.the-variants.{Nothing}
@@ -94,16 +95,7 @@ pub all-ticks : (P : Controller → Type 0) → ((c : Controller) → P c) → (
     → AtTicks P calls c
 unfolding AtTicks
 all-ticks P h [] c = tt
-all-ticks P h (call ∷ calls) c = λ w. (of-call call, all-ticks P h calls (after call c))
-  where
-    of-call : (call : Call) → AtTick P call c
-    of-call (powers head0 head1) = tt
-    of-call (reads offset) = tt
-    of-call (writes offset byte) = tt
-    of-call (takes tc) = tt
-    of-call (gives byte tc) = tt
-    of-call (ticks a b) = h c
-    of-call (notes drive) = tt
+all-ticks P h (call ∷ calls) c = λ w. (at-tick P call c (h c), all-ticks P h calls (after call c))
 
 module _ (drive : ℕ) (Tick : Controller → Type 0) (Course : Controller → List ℕ → Type 0) (Said : Controller → Type 0)
     (on-call : (call : Call) (c : Controller) (img : List ℕ) → Quiet c → atWork (c .phase) ≡ true → NoTick call
@@ -115,13 +107,11 @@ module _ (drive : ℕ) (Tick : Controller → Type 0) (Course : Controller → L
   course-after : (call : Call) (c : Controller) (img : List ℕ) → Quiet c → atWork (c .phase) ≡ true
       → motorIn (c .registers .dor) drive ≡ true → Calm call → Handed drive img call → AtTick Tick call c → Course c img
       → Course (after call c) (imageBy drive img call c)
-  course-after (powers head0 head1) c img q w m calm lent t k = absurd calm
-  course-after (reads offset) c img q w m calm lent t k = on-call (reads offset) c img q w tt calm k
-  course-after (writes offset byte) c img q w m calm lent t k = on-call (writes offset byte) c img q w tt calm k
-  course-after (takes tc) c img q w m calm lent t k = on-call (takes tc) c img q w tt calm k
-  course-after (gives byte tc) c img q w m calm lent t k = on-call (gives byte tc) c img q w tt calm k
-  course-after (ticks a b) c img q w m calm lent t k = on-tick a b c img q w m lent t k
-  course-after (notes drive′) c img q w m calm lent t k = on-call (notes drive′) c img q w tt calm k
+  course-after call c img q w m calm lent t k =
+      tick-or-not
+      (λ x. Calm x → Handed drive img x → AtTick Tick x c → Course (after x c) (imageBy drive img x c))
+      (λ a b calm lent t. on-tick a b c img q w m lent t k)
+      (λ x n calm lent t. rw (image-same drive img x c n) (on-call x c img q w n calm k)) call calm lent t
 
   -- if it ends, it ends so
   pub course-ends : (calls : List Call) (c : Controller) (img : List ℕ) → Quiet c → Course c img → Spins drive calls c

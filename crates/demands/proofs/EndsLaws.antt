@@ -36,7 +36,7 @@ use Rattle.fdc.specs.Commands.{answeredOf, saidOf}
 use Rattle.reached.specs.Moves.{tickOne, tickCount}
 use Rattle.fdc.specs.Record.{driveAt, withFifo, withPhase}
 use Rattle.fdc.specs.Registers.{heldIn, motorIn}
-use Rattle.reached.specs.Runs.{Call, powers, reads, writes, takes, gives, ticks, notes, after}
+use Rattle.fdc.specs.Runs.{Call, ticks, after}
 use Rattle.fdc.specs.Ticks.{seenOf, sensedAt, stillOf, settledOf, decidedOf, decideIn, decideOf, ruledOf, imageAfter}
 use Rattle.reached.proofs.GoodLaws.{good-valid}
 use Rattle.demands.specs.EndsInTime.{boundOf, EndsInTime, EndsInOne, SensesInOne}
@@ -44,6 +44,7 @@ use Rattle.demands.specs.Work.{atWork, imageBy, Handed, Alone, Ends, Any
 use Rattle.demands.proofs.BoundLaws.{workLeft, thenLeft, ProperWork, ProperThen, Falls, work-pos, go-on-falls, begin-falls}
 use Rattle.demands.proofs.CallLaws.{tick-starts, tick-works, call-rule, after-tick}
 use Rattle.demands.proofs.CallRules.{NoTick, CallRule, cut-off, goes-on}
+use Rattle.demands.proofs.SplitLaws.{tick-or-not, image-same, no-tick}
 use Rattle.demands.specs.Quiet.{Quiet}
 use Rattle.demands.proofs.QuietLaws.{quiet-real, quiet-after}
 
@@ -217,22 +218,20 @@ module _ (drive : ℕ) (g : Geometry) where
   stays img call c e (goes-on k f) o =
       record { on = rw (k .phase) o; left = rw (k .phase, k .heads (drive % 4) (omega arith)) (omega arith) }
 
-  other-goes : (img : List ℕ) (call : Call) (c : Controller) → imageBy drive img call c ≡ img → tickOne call ≡ 0
-      → Quiet c → atWork (c .phase) ≡ true → NoTick call → On drive g (c .phase) → diskIn img ≡ Present g
-      → Goes drive g img call c
-  other-goes img call c i t q w n o d =
+  other-goes : (img : List ℕ) (call : Call) (c : Controller) → Quiet c → atWork (c .phase) ≡ true → NoTick call
+      → On drive g (c .phase) → diskIn img ≡ Present g → Goes drive g img call c
+  other-goes img call c q w n o d =
       let s = stays img call c (after call c) (call-rule call c q w n) o in
-      record { on = s .on; disk = rw i d; left = rw (i, t) (omega (arith, s .left)) }
+      let i = image-same drive img call c n in
+      record { on = s .on; disk = rw i d; left = rw (i, no-tick call n) (omega (arith, s .left)) }
 
   call-goes : (img : List ℕ) (call : Call) (c : Controller) → Quiet c → atWork (c .phase) ≡ true → On drive g (c .phase)
       → diskIn img ≡ Present g → Handed drive img call → Goes drive g img call c
-  call-goes img (powers head0 head1) c q w o d h = other-goes img (powers head0 head1) c refl refl q w tt o d
-  call-goes img (reads offset) c q w o d h = other-goes img (reads offset) c refl refl q w tt o d
-  call-goes img (writes offset byte) c q w o d h = other-goes img (writes offset byte) c refl refl q w tt o d
-  call-goes img (takes tc) c q w o d h = other-goes img (takes tc) c refl refl q w tt o d
-  call-goes img (gives byte tc) c q w o d h = other-goes img (gives byte tc) c refl refl q w tt o d
-  call-goes img (ticks a b) c q w o d h = tick-goes-in img a b c (c .phase) refl q o d w h
-  call-goes img (notes k) c q w o d h = other-goes img (notes k) c refl refl q w tt o d
+  call-goes img call c q w o d h =
+      tick-or-not
+      (λ x. Handed drive img x → Goes drive g img x c)
+      (λ a b h. tick-goes-in img a b c (c .phase) refl q o d w h)
+      (λ x n h. other-goes img x c q w n o d) call h
 
   -- no more ticks than are left
   pub ends-by : (calls : List Call) (img : List ℕ) (c : Controller) → Quiet c → On drive g (c .phase)

@@ -60,9 +60,10 @@ use Rattle.demands.specs.Quiet.{Quiet}
 use Rattle.demands.specs.Work.{atWork, Its, imageBy, imageLeft, Handed, Alone, Real}
 use Rattle.demands.proofs.CallLaws.{tick-starts, tick-works, call-rule}
 use Rattle.demands.proofs.CallRules.{NoTick, FifoRule, same, took, gave, Keeps, CallRule, cut-off, goes-on}
+use Rattle.demands.proofs.SplitLaws.{tick-or-not, image-same}
 use Rattle.demands.proofs.FifoStream.{Open, Stream, open-opened, open-given, open-drawn, stream-fresh, stream-within, held-given, held-drawn, held-more, held-none}
 use Rattle.demands.proofs.FormatRules.{present-same, absent≢present, formVerdict, FirstRule, nothing-there, is-protected, is-misplanned, opens, first-rule, ClearRule, clears-on, is-whole, FormRule, late-first, late-later, waits, begins, addresses, addresses-last, fills, marks, marks-last, clears, form-rule}
-use Rattle.demands.proofs.PowerCutLaws.{image-same, idle≢answering}
+use Rattle.demands.proofs.PowerCutLaws.{idle≢answering}
 use Rattle.demands.proofs.QuietLaws.{quiet-real, quiet-after}
 use Rattle.demands.proofs.TickRules.{endsWith}
 use Rattle.demands.proofs.ScriptLaws.{applied-append, soFar, placeOf, drawnIn, InScript, script-length, so-far-take, so-far-addresses, so-far-addressed, so-far-fills, so-far-marks, so-far-clears, so-far-turns, so-far-grown, place-inside, script-some, stage-done, Fed, fed-none, fed-grown, Needs, fed-on}
@@ -643,13 +644,11 @@ module _ (g : Geometry) (cylinder : ℕ) (order : Order) (plan : Plan) (old : Li
       → atWork (c .phase) ≡ true
       → Handed drive img call → Run c img h m
       → Run (after call c) (imageBy drive img call c) (historyBy call c h) (storesBy call c m)
-  run-after (powers head0 head1) c img h m q w e r = call-run (powers head0 head1) c img h m q w tt r
-  run-after (reads offset) c img h m q w e r = call-run (reads offset) c img h m q w tt r
-  run-after (writes offset byte) c img h m q w e r = call-run (writes offset byte) c img h m q w tt r
-  run-after (takes tc) c img h m q w e r = call-run (takes tc) c img h m q w tt r
-  run-after (gives byte tc) c img h m q w e r = call-run (gives byte tc) c img h m q w tt r
-  run-after (ticks a b) c img h m q w e r = run-tick a b c img h m q w e r
-  run-after (notes drive′) c img h m q w e r = call-run (notes drive′) c img h m q w tt r
+  run-after call c img h m q w e r =
+      tick-or-not
+      (λ x. Handed drive img x → Run (after x c) (imageBy drive img x c) (historyBy x c h) (storesBy x c m))
+      (λ a b e. run-tick a b c img h m q w e r)
+      (λ x n e. call-run x c img h m q w n r) call e
 
   run-all : (calls : List Call) (c : Controller) (img : List ℕ) (h : History) (m : ℕ) → Quiet c → Its calls c
       → Alone drive img calls c → Run c img h m

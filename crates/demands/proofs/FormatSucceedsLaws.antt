@@ -34,7 +34,7 @@ use Rattle.fdc.specs.Commands.{answeredOf}
 use Rattle.reached.specs.Moves.{Calm}
 use Rattle.fdc.specs.Record.{withFifo, withPhase}
 use Rattle.fdc.specs.Registers.{motorIn}
-use Rattle.reached.specs.Runs.{Call, powers, reads, writes, takes, gives, ticks, notes, after}
+use Rattle.fdc.specs.Runs.{Call, ticks, after}
 use Rattle.fdc.specs.Ticks.{seenOf, settledOf, decidedOf, ruledOf}
 use Rattle.demands.specs.DataError.{Spins}
 use Rattle.demands.specs.FormatScript.{storesBy, Allowed}
@@ -45,7 +45,7 @@ use Rattle.demands.specs.PowerCut.{headOf}
 use Rattle.demands.specs.Quiet.{Quiet}
 use Rattle.demands.specs.Work.{atWork, imageBy, Handed, Alone, Ends, Anyhow, Real}
 use Rattle.demands.proofs.CallLaws.{tick-starts, tick-works, calm-keeps, after-tick}
-use Rattle.demands.proofs.CallRules.{NoTick}
+use Rattle.demands.proofs.SplitLaws.{tick-or-not}
 use Rattle.demands.proofs.CourseLaws.{same-geometry}
 use Rattle.demands.proofs.EndsLaws.{ends-in-time-quiet}
 use Rattle.demands.proofs.FormatLaws.{site, Run, is-over, to-start, at-it, run-formatted, head-is, empty-start, run-after}
@@ -153,19 +153,11 @@ module _ (g : Geometry) (cylinder : ℕ) (order : Order) (plan : Plan) (old : Li
   fine-after : (call : Call) (c : Controller) (img : List ℕ) (h : History) (m : ℕ) → Quiet c → atWork (c .phase) ≡ true
       → motorIn (c .registers .dor) drive ≡ true → Calm call → Handed drive img call → AtTick Timely call c
       → Running c img h m → Fine (after call c)
-  fine-after call c img h m q w motor calm e s r = go call calm e s
-    where
-      kept : (call : Call) → NoTick call → Calm call → Fine (after call c)
-      kept call n calm = inr (ap atWork (calm-keeps call c q w n calm .phase) ∙ w)
-
-      go : (call : Call) → Calm call → Handed drive img call → AtTick Timely call c → Fine (after call c)
-      go (powers head0 head1) calm e s = absurd calm
-      go (reads offset) calm e s = kept (reads offset) tt calm
-      go (writes offset byte) calm e s = kept (writes offset byte) tt calm
-      go (takes tc) calm e s = kept (takes tc) tt calm
-      go (gives byte tc) calm e s = kept (gives byte tc) tt calm
-      go (ticks a b) calm e s = run-tick-fine a b c img h m q w motor e s (run-disk c img h m r) r
-      go (notes drive′) calm e s = kept (notes drive′) tt calm
+  fine-after call c img h m q w motor calm e s r =
+      tick-or-not
+      (λ x. Calm x → Handed drive img x → AtTick Timely x c → Fine (after x c))
+      (λ a b calm e s. run-tick-fine a b c img h m q w motor e s (run-disk c img h m r) r)
+      (λ x n calm e s. inr (ap atWork (calm-keeps x c q w n calm .phase) ∙ w)) call calm e s
 
   ends-well : (calls : List Call) (c : Controller) (img : List ℕ) (h : History) (m : ℕ) → Quiet c → Running c img h m
       → Fine c → Spins drive calls c → Alone drive img calls c → InTime calls c → Ends Anyhow calls c

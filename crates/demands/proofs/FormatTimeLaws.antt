@@ -37,7 +37,7 @@ use Rattle.fdc.specs.declared.record.Phase.the-variants.{Idle, Gathering, Start
 use Rattle.fdc.specs.declared.ticks.Decision.{Decision}
 use Rattle.fdc.specs.Commands.{answeredOf}
 use Rattle.fdc.specs.Record.{withFifo, withPhase}
-use Rattle.reached.specs.Runs.{Call, powers, reads, writes, takes, gives, ticks, notes, after, runCalls}
+use Rattle.fdc.specs.Runs.{Call, ticks, after, runCalls}
 use Rattle.fdc.specs.Ticks.{settledOf, decidedOf, ruledOf}
 use Rattle.demands.specs.Acknowledged.{resultByte}
 use Rattle.demands.specs.FormatScript.{slotDraws, storesBy}
@@ -48,7 +48,8 @@ use Rattle.demands.specs.PowerCut.{headOf}
 use Rattle.demands.specs.Quiet.{Quiet}
 use Rattle.demands.specs.Work.{atWork, Its, imageBy, Alone, Real}
 use Rattle.demands.proofs.CallLaws.{tick-starts, tick-works, call-rule, after-tick}
-use Rattle.demands.proofs.CallRules.{NoTick, same, took, gave, CallRule, cut-off, goes-on}
+use Rattle.demands.proofs.CallRules.{same, took, gave, CallRule, cut-off, goes-on}
+use Rattle.demands.proofs.SplitLaws.{tick-or-not, at-tick-map}
 use Rattle.demands.proofs.FifoStream.{held-none}
 use Rattle.demands.proofs.FormatLaws.{site, Busy, Run, is-over, to-start, at-it, head-is, empty-start, run-after}
 use Rattle.demands.proofs.FormatRules.{FirstRule, nothing-there, is-protected, is-misplanned, opens, first-rule, ClearRule, clears-on, is-whole, FormRule, late-first, late-later, waits, begins, addresses, addresses-last, fills, marks, marks-last, clears, form-rule, TimelyRule, still-forms, ends-whole, timely-rule}
@@ -63,17 +64,10 @@ pub prompt-served : (n : ℕ) (calls : List Call) (c : Controller) (h : History)
 unfolding AtTicks ServedUpTo
 prompt-served n [] c h p = tt
 prompt-served n (call ∷ calls) c h p =
-    λ w. (off call (p w .0), prompt-served n calls (after call c) (historyBy call c h) (p w .1))
-  where
-    off : (call : Call) → AtTick RequestOff call c
-        → AtTick (λ e. (e .fifo .asks ≡ false) ⊎ (n ≤ length (h .host))) call c
-    off (powers head0 head1) s = tt
-    off (reads offset) s = tt
-    off (writes offset byte) s = tt
-    off (takes tc) s = tt
-    off (gives byte tc) s = tt
-    off (ticks a b) s = inl s
-    off (notes drive) s = tt
+    λ w. (
+      at-tick-map RequestOff (λ e. (e .fifo .asks ≡ false) ⊎ (n ≤ length (h .host))) call c (λ s. inl s) (p w .0),
+      prompt-served n calls (after call c) (historyBy call c h) (p w .1),
+    )
 
 -- Served up to four bytes for each slot.
 module _ (g : Geometry) (cylinder : ℕ) (order : Order) (plan : Plan) (old : List ℕ) (disk : diskIn old ≡ Present g)
@@ -207,19 +201,11 @@ module _ (g : Geometry) (cylinder : ℕ) (order : Order) (plan : Plan) (old : Li
   serves-after : (call : Call) (c : Controller) (img : List ℕ) (h : History) (m : ℕ) → Quiet c
       → atWork (c .phase) ≡ true
       → Serves (c .phase) (c .fifo) → Running c img h m → Serves (after call c .phase) (after call c .fifo)
-  serves-after call c img h m q w s r = go call
-    where
-      kept : (call : Call) → NoTick call → Serves (after call c .phase) (after call c .fifo)
-      kept call n = kept-serves call c (after call c) img h m w (call-rule call c q w n) s r
-
-      go : (call : Call) → Serves (after call c .phase) (after call c .fifo)
-      go (powers head0 head1) = kept (powers head0 head1) tt
-      go (reads offset) = kept (reads offset) tt
-      go (writes offset byte) = kept (writes offset byte) tt
-      go (takes tc) = kept (takes tc) tt
-      go (gives byte tc) = kept (gives byte tc) tt
-      go (ticks a b) = run-tick-serves a b c img h m q w s r
-      go (notes drive′) = kept (notes drive′) tt
+  serves-after call c img h m q w s r =
+      tick-or-not
+      (λ x. Serves (after x c .phase) (after x c .fifo))
+      (λ a b. run-tick-serves a b c img h m q w s r)
+      (λ x n. kept-serves x c (after x c) img h m w (call-rule x c q w n) s r) call
 
   abbrev Served : History → Controller → Type 0
   Served h c = (c .fifo .asks ≡ false) ⊎ (due ≤ length (h .host))
@@ -233,13 +219,7 @@ module _ (g : Geometry) (cylinder : ℕ) (order : Order) (plan : Plan) (old : Li
 
   at-timely : (call : Call) (c : Controller) (img : List ℕ) (h : History) (m : ℕ) → Quiet c → atWork (c .phase) ≡ true
       → Serves (c .phase) (c .fifo) → Running c img h m → AtTick (Served h) call c → AtTick Timely call c
-  at-timely (powers head0 head1) c img h m q w s r v = tt
-  at-timely (reads offset) c img h m q w s r v = tt
-  at-timely (writes offset byte) c img h m q w s r v = tt
-  at-timely (takes tc) c img h m q w s r v = tt
-  at-timely (gives byte tc) c img h m q w s r v = tt
-  at-timely (ticks a b) c img h m q w s r v = run-timely c img h m q w s r v
-  at-timely (notes drive′) c img h m q w s r v = tt
+  at-timely call c img h m q w s r v = at-tick-map (Served h) Timely call c (run-timely c img h m q w s r) v
 
   served-timely : (calls : List Call) (c : Controller) (img : List ℕ) (h : History) (m : ℕ) → Quiet c
       → Serves (c .phase) (c .fifo) → Running c img h m → Alone drive img calls c → ServedUpTo due calls c h
@@ -331,22 +311,17 @@ ticks-forming a b c q w s (forming at plan form p) =
 
 forming-after : (call : Call) (c : Controller) → Quiet c → atWork (c .phase) ≡ true → AtTick Timely call c → Forming c
     → Forming (after call c)
-forming-after call c q w s f = go call s
+forming-after call c q w s f =
+    tick-or-not
+    (λ x. AtTick Timely x c → Forming (after x c))
+    (λ a b s. ticks-forming a b c q w s f)
+    (λ x n s. kept (after x c) x (call-rule x c q w n) f) call s
   where
     kept : (e : Controller) (call : Call) → CallRule call c e → Forming c → Forming e
     kept e call (cut-off o n) f = over (ap atWork o) (λ p r. idle≢answering true (sym o ∙ p))
     kept e call (goes-on k g) (over n t) = absurd (false≢true (sym n ∙ w))
     kept e call (goes-on k g) (starting order plan p job) = starting order plan (k .phase ∙ p) job
     kept e call (goes-on k g) (forming at plan form p) = forming at plan form (k .phase ∙ p)
-
-    go : (call : Call) → AtTick Timely call c → Forming (after call c)
-    go (powers head0 head1) s = kept _ (powers head0 head1) (call-rule (powers head0 head1) c q w tt) f
-    go (reads offset) s = kept _ (reads offset) (call-rule (reads offset) c q w tt) f
-    go (writes offset byte) s = kept _ (writes offset byte) (call-rule (writes offset byte) c q w tt) f
-    go (takes tc) s = kept _ (takes tc) (call-rule (takes tc) c q w tt) f
-    go (gives byte tc) s = kept _ (gives byte tc) (call-rule (gives byte tc) c q w tt) f
-    go (ticks a b) s = ticks-forming a b c q w s f
-    go (notes drive) s = kept _ (notes drive) (call-rule (notes drive) c q w tt) f
 
 run-forming : (calls : List Call) (c : Controller) → Quiet c → Its calls c → InTime calls c → Forming c
     → Forming (runCalls calls c)

@@ -62,7 +62,7 @@ use Rattle.fdc.specs.Commands.{answeredOf}
 use Rattle.fdc.specs.Data.{phaseFromHost}
 use Rattle.fdc.specs.Record.{driveAt, withFifo, withPhase}
 use Rattle.fdc.specs.Registers.{motorIn}
-use Rattle.reached.specs.Runs.{Call, powers, reads, writes, takes, gives, ticks, notes, answerTo, after, runCalls}
+use Rattle.fdc.specs.Runs.{Call, ticks, answerTo, after, runCalls}
 use Rattle.fdc.specs.Ticks.{seenOf, settledOf, decidedOf, ruledOf, tickOf, imageAfter}
 use Rattle.demands.specs.Acknowledged.{resultByte, resultId}
 use Rattle.demands.specs.HandedOver.{Taken, untaken, takenBy, takenOver, tookOne, IsGood, IsOther, Passed, was-read, was-skipped, Ways, Tells, Hands, HandedOver, HandedPlain}
@@ -71,6 +71,7 @@ use Rattle.demands.specs.Work.{atWork, Its, imageBy, imageLeft, Handed, 
 use Rattle.demands.proofs.AddressLaws.{onward-turn, onward-stay}
 use Rattle.demands.proofs.CallLaws.{tick-starts, tick-works, call-rule, calm-keeps, taken-rule}
 use Rattle.demands.proofs.CallRules.{NoTick, MayTake, FifoRule, same, took, gave, TakenRule, none-taken, one-taken, Keeps, CallRule, cut-off, goes-on}
+use Rattle.demands.proofs.SplitLaws.{taking-or-not, may-calm, image-same, none-handed}
 use Rattle.demands.specs.Quiet.{Quiet}
 use Rattle.demands.proofs.CutLaws.{marked-counts, next-slot-below, matches-id, turned-has, not-80}
 use Rattle.demands.proofs.HandedStream.{AsksSome, some-emptied, some-taken, some-filled, size-some, Flow, flows, ended, flow-fresh, flow-got, flow-next, flow-most, flow-fill, flow-take, flow-skip}
@@ -987,21 +988,15 @@ module _ (g : Geometry) (cylinder : ℕ) (order : Order) (transfer : Transfer) (
       → Handed drive img call → Run c t
       → (imageBy drive img call c ≡ img) × Run (after call c) (takenBy call c t)
   unfolding takenBy
-  run-after (powers head0 head1) c t q w e r = (refl, other-run (powers head0 head1) c t q w tt (λ m. m) r)
-  run-after (reads offset) c t q w e r = (
-    refl,
-    taken-run (reads offset) c (after (reads offset) c) t q w (calm-keeps (reads offset) c q w tt tt)
-        (taken-rule c q w (reads offset) tt) r,
-  )
-  run-after (writes offset byte) c t q w e r = (refl, other-run (writes offset byte) c t q w tt (λ m. m) r)
-  run-after (takes tc) c t q w e r = (
-    refl,
-    taken-run (takes tc) c (after (takes tc) c) t q w (calm-keeps (takes tc) c q w tt tt)
-        (taken-rule c q w (takes tc) tt) r,
-  )
-  run-after (gives byte tc) c t q w e r = (refl, other-run (gives byte tc) c t q w tt (λ m. m) r)
-  run-after (ticks a b) c t q w e r = run-tick a b c t q w e r
-  run-after (notes drive′) c t q w e r = (refl, other-run (notes drive′) c t q w tt (λ m. m) r)
+  run-after call c t q w e r =
+      taking-or-not
+      (λ x. Handed drive img x → (imageBy drive img x c ≡ img) × Run (after x c) (takenBy x c t))
+      (λ a b e. run-tick a b c t q w e r)
+      (λ x n may e. (
+        image-same drive img x c n,
+        taken-run x c (after x c) t q w (calm-keeps x c q w n (may-calm x may)) (taken-rule c q w x may) r,
+      ))
+      (λ x n bare e. (image-same drive img x c n, rw (none-handed x c t bare) (other-run x c t q w n bare r))) call e
 
   pub run-all : (calls : List Call) (c : Controller) (t : Taken) → Quiet c → Its calls c
       → Alone drive img calls c → Run c t

@@ -41,13 +41,14 @@ use Rattle.fdc.specs.declared.ticks.Decision.{Decision}
 use Rattle.reached.specs.Good.{Suits}
 use Rattle.fdc.specs.Commands.{answeredOf}
 use Rattle.fdc.specs.Record.{withFifo, withPhase}
-use Rattle.reached.specs.Runs.{Call, powers, reads, writes, takes, gives, ticks, notes, after, runCalls}
+use Rattle.fdc.specs.Runs.{Call, ticks, after, runCalls}
 use Rattle.fdc.specs.Ticks.{settledOf, decidedOf, ruledOf}
 use Rattle.demands.specs.Acknowledged.{resultByte}
 use Rattle.demands.specs.InTime.{Late, LatePhase, AtTick, AtTicks, Timely, InTime, RequestOff, Prompt, PromptInTime, NeverLate}
 use Rattle.demands.specs.Work.{atWork, Its, Real}
 use Rattle.demands.proofs.CallLaws.{tick-starts, tick-works, call-rule, after-tick}
 use Rattle.demands.proofs.CallRules.{NoTick, FifoRule, same, took, gave, Keeps, CallRule, cut-off, goes-on}
+use Rattle.demands.proofs.SplitLaws.{tick-or-not, at-tick-map}
 use Rattle.demands.specs.Quiet.{Quiet}
 use Rattle.demands.proofs.QuietLaws.{quiet-real, quiet-after}
 use Rattle.demands.proofs.RequestLaws.{test-off, ReadServed, off-room, read-empty, read-taken, OffEmpty, off-empty-taken, read-filled, last-filled, WriteServed, ToldSome, write-opened, told-opened, write-given, told-given, write-drawn}
@@ -336,13 +337,11 @@ module _ (order : Order) (transfer : Transfer) (id : Id) (job : order .job ≡ M
 
   runs-after : (call : Call) (c : Controller) → Quiet c → atWork (c .phase) ≡ true → AtTick Timely call c → Runs c
       → Runs (after call c)
-  runs-after (powers head0 head1) c q w t r = call-runs (powers head0 head1) c q w tt r
-  runs-after (reads offset) c q w t r = call-runs (reads offset) c q w tt r
-  runs-after (writes offset byte) c q w t r = call-runs (writes offset byte) c q w tt r
-  runs-after (takes tc) c q w t r = call-runs (takes tc) c q w tt r
-  runs-after (gives byte tc) c q w t r = call-runs (gives byte tc) c q w tt r
-  runs-after (ticks a b) c q w t r = run-tick a b c q w t r
-  runs-after (notes drive) c q w t r = call-runs (notes drive) c q w tt r
+  runs-after call c q w t r =
+      tick-or-not
+      (λ x. AtTick Timely x c → Runs (after x c))
+      (λ a b t. run-tick a b c q w t r)
+      (λ x n t. call-runs x c q w n r) call t
 
   -- 01 FIFO: with the request off a tick finds no byte late
   off-timely : (c : Controller) → Runs c → RequestOff c → Timely c
@@ -360,13 +359,7 @@ module _ (order : Order) (transfer : Transfer) (id : Id) (job : order .job ≡ M
       quiet-timely (Answering loud) n l = l
 
   call-timely : (call : Call) (c : Controller) → Runs c → AtTick RequestOff call c → AtTick Timely call c
-  call-timely (powers head0 head1) c r a = tt
-  call-timely (reads offset) c r a = tt
-  call-timely (writes offset byte) c r a = tt
-  call-timely (takes tc) c r a = tt
-  call-timely (gives byte tc) c r a = tt
-  call-timely (ticks x y) c r a = off-timely c r a
-  call-timely (notes drive) c r a = tt
+  call-timely call c r a = at-tick-map RequestOff Timely call c (off-timely c r) a
 
   all-timely : (calls : List Call) (c : Controller) → Quiet c → Runs c → Prompt calls c → InTime calls c
   unfolding AtTicks

@@ -35,6 +35,7 @@ pub mod RoundTripLaws
 pub mod ScriptLaws
 pub mod SearchLaws
 pub mod SoundLaws
+pub mod SplitLaws
 pub mod StepsLaws
 pub mod SucceedsLaws
 pub mod TickRules

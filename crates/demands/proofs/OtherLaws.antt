@@ -24,12 +24,13 @@ use Rattle.fdc.specs.Answer.{answerOf}
 use Rattle.fdc.specs.Commands.{answeredOf}
 use Rattle.fdc.specs.Record.{validOf, withFifo, withPhase}
 use Rattle.fdc.specs.Registers.{heldIn}
-use Rattle.reached.specs.Runs.{Call, powers, reads, writes, takes, gives, ticks, notes, answerTo, after, runCalls}
+use Rattle.fdc.specs.Runs.{Call, answerTo, after, runCalls}
 use Rattle.fdc.specs.Ticks.{steppedOf, stillOf, settledOf, decidedOf, decideIn, decideOf, ruledOf, tickOf, imageAfter}
 use Rattle.demands.specs.PowerCut.{OtherImage}
 use Rattle.demands.specs.Work.{atWork, Its, Real}
 use Rattle.demands.proofs.CallLaws.{tick-starts, tick-works, call-rule}
 use Rattle.demands.proofs.CallRules.{NoTick, CallRule, cut-off, goes-on}
+use Rattle.demands.proofs.SplitLaws.{tick-or-not}
 use Rattle.demands.specs.Quiet.{Quiet}
 use Rattle.demands.proofs.QuietLaws.{quiet-real, quiet-after}
 
@@ -131,13 +132,11 @@ module _ (drive : ℕ) where
   of-after : (call : Call) (c : Controller) → Quiet c → atWork (c .phase) ≡ true → Of drive (c .phase)
       → Of drive (after call c .phase)
   unfolding answerTo tickOf answerOf
-  of-after (powers head0 head1) c q w o = call-of (powers head0 head1) c q w o tt
-  of-after (reads offset) c q w o = call-of (reads offset) c q w o tt
-  of-after (writes offset byte) c q w o = call-of (writes offset byte) c q w o tt
-  of-after (takes tc) c q w o = call-of (takes tc) c q w o tt
-  of-after (gives byte tc) c q w o = call-of (gives byte tc) c q w o tt
-  of-after (ticks a b) c q w o = works a b c q w o .goes
-  of-after (notes drive′) c q w o = call-of (notes drive′) c q w o tt
+  of-after call c q w o =
+      tick-or-not
+      (λ x. Of drive (after x c .phase))
+      (λ a b. works a b c q w o .goes)
+      (λ x n. call-of x c q w o n) call
 
   of-run : (calls : List Call) (c : Controller) → Quiet c → Its calls c → Of drive (c .phase)
       → (k : ℕ) → (k ≡ drive → ⊥) → (a b img : List ℕ) → imageAfter k a b (runCalls calls c) img ≡ img

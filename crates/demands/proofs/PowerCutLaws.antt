@@ -48,7 +48,7 @@ use Rattle.fdc.specs.Commands.{answeredOf}
 use Rattle.fdc.specs.Data.{phaseToHost, phaseHears}
 use Rattle.fdc.specs.Record.{driveAt, withFifo, withPhase}
 use Rattle.fdc.specs.Registers.{motorIn}
-use Rattle.reached.specs.Runs.{Call, powers, reads, writes, takes, gives, ticks, notes, answerTo, after, runCalls}
+use Rattle.fdc.specs.Runs.{Call, ticks, answerTo, after, runCalls}
 use Rattle.fdc.specs.Ticks.{seenOf, settledOf, decidedOf, ruledOf, tickOf, imageAfter}
 use Rattle.demands.specs.Acknowledged.{resultByte, resultId, Acknowledges}
 use Rattle.demands.specs.History.{History, fresh, noted, handed, historyBy, historyOf}
@@ -56,6 +56,7 @@ use Rattle.demands.specs.PowerCut.{Writes, Aim, headOf, PowerCut}
 use Rattle.demands.specs.Work.{atWork, Its, imageBy, imageLeft, Handed, Alone, Real}
 use Rattle.demands.proofs.CallLaws.{tick-starts, tick-works, call-rule}
 use Rattle.demands.proofs.CallRules.{NoTick, FifoRule, same, took, gave, Keeps, CallRule, cut-off, goes-on}
+use Rattle.demands.proofs.SplitLaws.{tick-or-not, image-same}
 use Rattle.demands.specs.Quiet.{Quiet}
 use Rattle.demands.proofs.CutLaws.{some≢none, Sofar, Busy, Says, OnThen, OnStep, fails-says, busy-rule}
 use Rattle.demands.proofs.FifoStream.{Open, open-opened, open-given, stream-fresh, stream-within, held-given}
@@ -84,16 +85,6 @@ given-some efifo tc byte f e = rw e (omega arith)
 
 pub idle≢answering : (loud : Bool) → Idle ≡ Answering loud → ⊥
 idle≢answering loud e = let z : _≡_ {A = ℕ} 0 1 = cc in omega arith
-
--- only a tick changes an image
-pub image-same : (drive : ℕ) (img : List ℕ) (call : Call) (c : Controller) → NoTick call → imageBy drive img call c ≡ img
-image-same drive img (powers head0 head1) c n = refl
-image-same drive img (reads offset) c n = refl
-image-same drive img (writes offset byte) c n = refl
-image-same drive img (takes tc) c n = refl
-image-same drive img (gives byte tc) c n = refl
-image-same drive img (ticks a b) c n = absurd n
-image-same drive img (notes drive′) c n = refl
 
 module _ (g : Geometry) (cylinder : ℕ) (order : Order) (transfer : Transfer) (id : Id) (old : List ℕ)
     (disk : diskIn old ≡ Present g) (moves : order .job ≡ Move transfer id) (wr : transfer .pass ≡ Write)
@@ -353,13 +344,11 @@ module _ (g : Geometry) (cylinder : ℕ) (order : Order) (transfer : Transfer) (
 
   pub run-after : (call : Call) (c : Controller) (img : List ℕ) (h : History) → Quiet c → atWork (c .phase) ≡ true
       → Handed drive img call → Run c img h → Run (after call c) (imageBy drive img call c) (historyBy call c h)
-  run-after (powers head0 head1) c img h q w e r = call-run (powers head0 head1) c img h q w tt r
-  run-after (reads offset) c img h q w e r = call-run (reads offset) c img h q w tt r
-  run-after (writes offset byte) c img h q w e r = call-run (writes offset byte) c img h q w tt r
-  run-after (takes tc) c img h q w e r = call-run (takes tc) c img h q w tt r
-  run-after (gives byte tc) c img h q w e r = call-run (gives byte tc) c img h q w tt r
-  run-after (ticks a b) c img h q w e r = run-tick a b c img h q w e r
-  run-after (notes drive′) c img h q w e r = call-run (notes drive′) c img h q w tt r
+  run-after call c img h q w e r =
+      tick-or-not
+      (λ x. Handed drive img x → Run (after x c) (imageBy drive img x c) (historyBy x c h))
+      (λ a b e. run-tick a b c img h q w e r)
+      (λ x n e. call-run x c img h q w n r) call e
 
   pub run-all : (calls : List Call) (c : Controller) (img : List ℕ) (h : History) → Quiet c → Its calls c
       → Alone drive img calls c → Run c img h → Run (runCalls calls c) (imageLeft drive img calls c) (historyOf calls c h)

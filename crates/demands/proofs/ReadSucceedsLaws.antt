@@ -55,7 +55,7 @@ use Rattle.reached.specs.Good.{Suits}
 use Rattle.reached.specs.Moves.{Calm, tickCount}
 use Rattle.fdc.specs.Record.{driveAt, withFifo, withPhase}
 use Rattle.fdc.specs.Registers.{motorIn}
-use Rattle.reached.specs.Runs.{Call, powers, reads, writes, takes, gives, ticks, notes, after}
+use Rattle.fdc.specs.Runs.{Call, reads, ticks, after}
 use Rattle.fdc.specs.Ticks.{seenOf, settledOf, decidedOf, ruledOf, imageAfter}
 use Rattle.demands.specs.DataError.{Spins}
 use Rattle.demands.specs.EndsInTime.{boundOf}
@@ -71,6 +71,7 @@ use Rattle.demands.specs.Work as command
 use Rattle.demands.proofs.AddressLaws.{onward-turn, onward-stay}
 use Rattle.demands.proofs.CallLaws.{tick-starts, tick-works, call-rule, calm-keeps, taken-rule}
 use Rattle.demands.proofs.CallRules.{NoTick, MayTake, FifoRule, same, took, gave, TakenRule, none-taken}
+use Rattle.demands.proofs.SplitLaws.{taking-or-not, image-same, none-handed}
 use Rattle.demands.proofs.CallRules.{one-taken, Keeps, CallRule, cut-off, goes-on}
 use Rattle.demands.proofs.CutLaws.{marked-counts, matches-id, next-slot-below}
 use Rattle.demands.proofs.CourseLaws.{same-geometry, tick-record, tick-head, tick-image, low-drive}
@@ -600,17 +601,17 @@ module _ (g : Geometry) (cylinder : ℕ) (order : Order) (transfer : Transfer) (
       → atWork (c .phase) ≡ true → Calm call → Handed drive img call → AtTick Timely call c → Told (takenBy call c t)
       → Follows (after call c) (takenBy call c t) × (imageBy drive img call c ≡ img)
   unfolding takenBy
-  follow-any (powers head0 head1) c t f m w calm lent timely told = absurd calm
-  follow-any (reads offset) c t f m w calm lent timely told =
-      (after-take (reads offset) c t f w tt calm tt told, refl)
-  follow-any (writes offset byte) c t f m w calm lent timely told =
-      (after-other (writes offset byte) c t f w tt calm (λ x. x) refl, refl)
-  follow-any (takes tc) c t f m w calm lent timely told = (after-take (takes tc) c t f w tt calm tt told, refl)
-  follow-any (gives byte tc) c t f m w calm lent timely told =
-      (after-other (gives byte tc) c t f w tt calm (λ x. x) refl, refl)
-  follow-any (ticks a b) c t f m w calm lent timely told = follow-tick a b c t f m lent timely w
-  follow-any (notes k) c t f m w calm lent timely told =
-      (after-other (notes k) c t f w tt calm (λ x. x) refl, refl)
+  follow-any call c t f m w calm lent timely told =
+      taking-or-not
+      (λ x. Calm x → Handed drive img x → AtTick Timely x c → Told (takenBy x c t)
+      → Follows (after x c) (takenBy x c t) × (imageBy drive img x c ≡ img))
+      (λ a b calm lent timely told. follow-tick a b c t f m lent timely w)
+      (λ x n may calm lent timely told. (after-take x c t f w n calm may told, image-same drive img x c n))
+      (λ x n bare calm lent timely told. (
+        after-other x c t f w n calm bare (none-handed x c t bare),
+        image-same drive img x c n,
+      ))
+      call calm lent timely told
 
   -- what is over has ended so
   over-so : (c : Controller) (t : Taken) → Follows c t → atWork (c .phase) ≡ false → Said c

@@ -63,7 +63,7 @@ use Rattle.fdc.specs.Commands.{answeredOf}
 use Rattle.reached.specs.Moves.{Calm, tickCount}
 use Rattle.fdc.specs.Record.{driveAt, withFifo, withPhase}
 use Rattle.fdc.specs.Registers.{motorIn}
-use Rattle.reached.specs.Runs.{Call, powers, reads, writes, takes, gives, ticks, notes, answerTo, after}
+use Rattle.fdc.specs.Runs.{Call, ticks, answerTo, after}
 use Rattle.fdc.specs.Ticks.{seenOf, settledOf, decidedOf, ruledOf, tickOf, imageAfter}
 use Rattle.demands.specs.DataError.{Spins}
 use Rattle.demands.specs.EndsInTime.{boundOf}
@@ -89,6 +89,7 @@ use Rattle.demands.specs.Work.{atWork, imageBy, Handed, Alone, Anyhow, R
 use Rattle.demands.specs.Work as command
 use Rattle.demands.proofs.CallLaws.{tick-starts, tick-works, call-rule, calm-keeps}
 use Rattle.demands.proofs.CallRules.{NoTick, same, took, gave, CallRule, cut-off, goes-on}
+use Rattle.demands.proofs.SplitLaws.{tick-or-not, image-same}
 use Rattle.demands.proofs.CutLaws.{next-slot-below, Busy, Half}
 use Rattle.demands.proofs.CourseLaws.{same-geometry}
 use Rattle.demands.proofs.DataErrorLaws.{disk-left}
@@ -96,7 +97,7 @@ use Rattle.demands.proofs.EndsLaws.{ends-in-time-quiet}
 use Rattle.demands.proofs.FifoStream.{stream-within, held-more, held-none}
 use Rattle.demands.proofs.InTimeLaws.{prompt-in-time-quiet}
 use Rattle.demands.proofs.LeftLaws.{storedCount, front-differs, noted-host}
-use Rattle.demands.proofs.PowerCutLaws.{image-same, Run, is-over, to-start, at-it, run-after}
+use Rattle.demands.proofs.PowerCutLaws.{Run, is-over, to-start, at-it, run-after}
 use Rattle.demands.proofs.QuietLaws.{quiet-real, quiet-after}
 use Rattle.demands.proofs.RequestLaws.{test-on, test-off}
 use Rattle.demands.proofs.SearchLaws.{Ahead, ahead-fresh, ahead-misses, ahead-passes, ahead-found}
@@ -698,24 +699,24 @@ module _ (g : Geometry) (cylinder : ℕ) (order : Order) (transfer : Transfer) (
       → atWork (c .phase) ≡ true → motorIn (c .registers .dor) drive ≡ true → Calm call → Handed drive img call
       → AtTick Timely call c → Keeping plan (historyBy call c h)
       → Course (after call c) (imageBy drive img call c) (historyBy call c h)
-  course-after (powers head0 head1) c img h k w m calm lent timely tells = absurd calm
-  course-after (reads offset) c img h k w m calm lent timely tells =
-      call-course (reads offset) c img h k w tt calm lent tells
-  course-after (writes offset byte) c img h k w m calm lent timely tells =
-      call-course (writes offset byte) c img h k w tt calm lent tells
-  course-after (takes tc) c img h k w m calm lent timely tells = call-course (takes tc) c img h k w tt calm lent tells
-  course-after (gives byte tc) c img h k w m calm lent timely tells =
-      call-course (gives byte tc) c img h k w tt calm lent tells
-  course-after (ticks a b) c img h k w m calm lent timely tells =
-      record {
-        quiet = quiet-after (ticks a b) c (k .quiet) w;
-        run = ran (ticks a b) c img h k w lent;
-        on = tick-on a b c img h (k .quiet) w lent m timely (k .few) (k .keeping) (k .on .0) (k .run);
-        few = few-tick plan a b c h (k .few);
-        keeping = tells;
-      }
-  course-after (notes drive′) c img h k w m calm lent timely tells =
-      call-course (notes drive′) c img h k w tt calm lent tells
+  course-after call c img h k w m calm lent timely tells =
+      tick-or-not
+      (λ x. Calm x → Handed drive img x → AtTick Timely x c → Keeping plan (historyBy x c h)
+      → Course (after x c) (imageBy drive img x c) (historyBy x c h))
+      tick-course
+      (λ x n calm lent timely tells. call-course x c img h k w n calm lent tells) call calm lent timely tells
+    where
+      tick-course : (a b : List ℕ) → Calm (ticks a b) → Handed drive img (ticks a b) → AtTick Timely (ticks a b) c
+          → Keeping plan (historyBy (ticks a b) c h)
+          → Course (after (ticks a b) c) (imageBy drive img (ticks a b) c) (historyBy (ticks a b) c h)
+      tick-course a b calm lent timely tells =
+          record {
+            quiet = quiet-after (ticks a b) c (k .quiet) w;
+            run = ran (ticks a b) c img h k w lent;
+            on = tick-on a b c img h (k .quiet) w lent m timely (k .few) (k .keeping) (k .on .0) (k .run);
+            few = few-tick plan a b c h (k .few);
+            keeping = tells;
+          }
 
   -- if it ends, it ends so
   ends-well : (calls : List Call) (c : Controller) (img : List ℕ) (h : History) → Course c img h → Spins drive calls c
