@@ -2,11 +2,11 @@
 -- Assumes nothing.
 use Prim.Native.Nat.{ℕ}
 use native.Mathlib.Omega.{arith}
-use mathlib.Core.List.{[], _∷_}
+use mathlib.Core.List.{[], _∷_, _++_}
 use mathlib.Core.Path.{refl}
 use Rattle.drive.specs.Drive.{fresh}
-use Rattle.fdc.specs.Examples.{command}
-use Rattle.fdc.specs.Runs.{writes, Reached}
+use Rattle.fdc.specs.Examples.{command, readied}
+use Rattle.fdc.specs.Runs.{Reached}
 use Rattle.image.proofs.Examples.{examples as image-examples}
 use Rattle.chip.proofs.Examples.{checked-examples as chip-examples}
 use Rattle.fdc.proofs.Examples.{examples as fdc-examples}
@@ -17,7 +17,7 @@ use Rattle.answers.specs.CheckedExamples.{recalibrates, Recalibrated, Ch
 
 reached : (head : ℕ) → Reached (recalibrates head)
 reached head =
-    record { head0 = head; head1 = 0; calls = writes 2 0x0C ∷ command (0x07 ∷ 0x00 ∷ []); run = refl }
+    record { head0 = head; head1 = 0; calls = readied 0x0C ++ command (0x07 ∷ 0x00 ∷ []); run = refl }
 
 pub checked-examples : CheckedExamples
 unfolding fdcOpen
