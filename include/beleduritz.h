@@ -1,15 +1,16 @@
 /* The disk box for firmware: an Intel 82077AA floppy controller with two drives whose disks are image files in memory.
  *
- * The library keeps nothing: all of the controller's state, its record, lies in bytes that the caller lends, and each
- * call reads it there and writes it back. No call allocates, blocks, traps or keeps a pointer. Two records are two
- * boxes; one record is used by one thread at a time. A record may be copied and kept, by the same version only.
+ * The library, libcapi.a, keeps nothing: all of the controller's state, its record, lies in bytes that the caller
+ * lends, and each call reads it there and writes it back. No call allocates, blocks, traps or keeps a pointer. Two
+ * records are two boxes; one record is used by one thread at a time. A record may be copied and kept, by the same
+ * version only.
  *
  *     uint8_t record[BEL_RECORD_MAX];
  *     bel_power_on(record, sizeof record, 0, 0);
  *     bel_write_port(record, sizeof record, 2, 0x0C);
  *
- * Link with libcapi.a. The slices that one call is lent must not overlap; a length of 0 goes with any pointer that is
- * not null, also for an image that is not there.
+ * The slices that one call is lent must not overlap; a length of 0 goes with any pointer that is not null, also for an
+ * image that is not there.
  */
 #ifndef BELEDURITZ_H
 #define BELEDURITZ_H

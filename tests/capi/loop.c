@@ -1,5 +1,5 @@
-/* A firmware loop over the disk box, as an example and as a test: power-on, reset released, the four reports taken, a
- * sector of a small image read by DMA, one written, and the refusals. Prints nothing but its last line. */
+/* A firmware loop over the disk box, as an example and as a test: power-on, reset released, the four reports taken,
+ * Configure, a sector of a small image read by DMA, one written, and the refusals. Prints nothing but its last line. */
 #include <stdio.h>
 #include <stdlib.h>
 #include <string.h>
@@ -186,6 +186,7 @@ static void damaged(void) {
 }
 
 int main(void) {
+  const uint8_t configure[4] = {0x13, 0x00, 0x20, 0x00}; /* EFIFO 1, FIFOTHR 0: a byte at a time */
   uint8_t sector[SECTOR];
   make_image();
   CHECK(bel_record_size() <= BEL_RECORD_MAX);
@@ -199,6 +200,7 @@ int main(void) {
     results(result, 2);
     CHECK(result[0] == 0xC0 + k && result[1] == 0);
   }
+  command(configure, 4);
   refusals();
   for (uint8_t r = 1; r <= SLOTS; r++) {
     read_sector(r, sector);

@@ -55,7 +55,7 @@ static void expect_bytes(const uint8_t *bytes, unsigned count)
 
 #define EXPECT(...) expect_bytes((const uint8_t[]){ __VA_ARGS__ }, sizeof((const uint8_t[]){ __VA_ARGS__ }))
 
-/* power on, the reset released with motor 0 on, its four reports taken */
+/* power on, the reset released with motor 0 on, its four reports taken; Configure: EFIFO 1, FIFOTHR 0 */
 static void start(uint8_t head)
 {
     bel_power_on(record, sizeof record, head, 0);
@@ -64,6 +64,7 @@ static void start(uint8_t head)
         SEND(0x08);
         EXPECT((uint8_t)(0xC0 | d), 0x00);
     }
+    SEND(0x13, 0x00, 0x20, 0x00);
 }
 
 /* sectors 1 .. S in order, all normal; each begins with its track and R */

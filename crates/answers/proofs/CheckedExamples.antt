@@ -2,69 +2,25 @@
 -- Assumes nothing.
 use Prim.Native.Nat.{ℕ}
 use native.Mathlib.Omega.{arith}
-use mathlib.Core.List.{[], _∷_}
+use mathlib.Core.List.{[], _∷_, _++_}
 use mathlib.Core.Path.{refl}
-use Rattle.image.specs.Disk.{headerIn, geometryIn, diskIn}
-use Rattle.image.specs.Layout.{sizeOf, trackLength, lengthOf, trackAt, offsetOf, sameOf}
-use Rattle.image.specs.Mark.{markOf}
-use Rattle.chip.specs.Commands.{kindOf, entryOf, kindNumbered, knownBelow}
-use Rattle.chip.specs.Fifo.{filledOf, takenOf, openedOf, givenOf, drawnOf}
-use Rattle.chip.specs.Next.{advancedOf, nextOf}
-use Rattle.drive.specs.Step.{stepped, sought, recalibrated, seekStep, seekTick, recalibrateStep, recalibrateTick}
-use Rattle.drive.specs.Step.{tickIn, tickOf}
-use Rattle.engine.specs.First.{gateOf, givenId, movingOf, startOf, enteredOf, beginOf}
-use Rattle.sectors.specs.Follow.{followedOf, followOf, turnOf}
-use Rattle.engine.specs.Format.{formatEnd, formAwait, addressPut, addressOf, clearOn, formedOf, fillOf, clearOf, formOf}
-use Rattle.sectors.specs.Read.{overrun, readOn, readOf, drainedOf, drainOf}
-use Rattle.engine.specs.ReadId.{noIdOf, noIdHere, idHere, identifiedOf, identifyOf}
-use Rattle.sectors.specs.Result.{endOf, moveEnd, moveFails}
-use Rattle.sectors.specs.Search.{notFound, missedOf, readFound, dataFound, bareFound, lookedOf, searchOf}
-use Rattle.engine.specs.Step.{lostOf, stageOf, workOf, goOnOf}
-use Rattle.sectors.specs.Track.{hasTrack, staysOf, markPlace, dataPlace}
-use Rattle.sectors.specs.Write.{underrun, awaitOf, putOf, dryOf, writtenOf, storeOf}
-use Rattle.fdc.specs.Answer.{answerOf}
-use Rattle.fdc.specs.Calls.{portOf, readReg, writeReg, powerOn, readPort, writePort, dmaRead, dmaWrite, noteChange}
-use Rattle.fdc.specs.Commands.{answeredOf, saidOf, saidTwo, idledOf, specifyOf, configureOf, sensingOf, reporterOf}
-use Rattle.fdc.specs.Commands.{sensedOf, soughtOf, recalibratedOf, moveOrder, formatOrder, identifyOrder, startedOf}
-use Rattle.fdc.specs.Commands.{ranOf, runOf, gatheredOf, goesOn, begunOf}
-use Rattle.fdc.specs.Data.{resultTaken, readIn, readFifo, offeredOf, writeFifo, dmaReadOf, dmaWriteOf}
-use Rattle.fdc.specs.Record.{freshOf, withRegisters, withDrives, withFifo, withBytes, withPhase, withDrive, validOf}
-use Rattle.fdc.specs.Registers.{motorIn, busyBits, anyBusy, pendingIn, msrOf, intOf, drqOf, dirOf}
-use Rattle.fdc.specs.Reset.{resetAll, resetOf, reportAll, releasedBy, releasedOf, withDor, withTdr, withRate}
-use Rattle.fdc.specs.Reset.{wroteDor, wroteDsr}
-use Rattle.reached.specs.Runs.{answerTo, runCalls}
-use Rattle.fdc.specs.Ticks.{seenOf, tickAll, steppedOf, st3Of, sensedAt, stillOf, settledOf, decidedOf}
-use Rattle.fdc.specs.Ticks.{startOf as fdc·startOf, workOf as fdc·workOf, decideIn, decideOf, ruledOf}
-use Rattle.fdc.specs.Ticks.{tickOf as fdc·tickOf, imageAfter}
 use Rattle.drive.specs.Drive.{fresh}
-use Rattle.reached.specs.Examples.{command}
-use Rattle.reached.specs.Runs.{writes, Reached}
+use Rattle.fdc.specs.Examples.{command, readied}
+use Rattle.fdc.specs.Runs.{Reached}
 use Rattle.image.proofs.Examples.{examples as image-examples}
 use Rattle.chip.proofs.Examples.{checked-examples as chip-examples}
-use Rattle.reached.proofs.Examples.{examples as fdc-examples}
-use Rattle.reached.proofs.SeekLaws.{recalibrate-on-time}
-use Rattle.reached.proofs.Whole.{cut-whole}
+use Rattle.fdc.proofs.Examples.{examples as fdc-examples}
+use Rattle.fdc.proofs.Open.{fdcOpen}
+use Rattle.fdc.proofs.SeekLaws.{recalibrate-on-time}
+use Rattle.fdc.proofs.Whole.{cut-whole}
 use Rattle.answers.specs.CheckedExamples.{recalibrates, Recalibrated, CheckedExamples}
 
 reached : (head : ℕ) → Reached (recalibrates head)
 reached head =
-    record { head0 = head; head1 = 0; calls = writes 2 0x0C ∷ command (0x07 ∷ 0x00 ∷ []); run = refl }
+    record { head0 = head; head1 = 0; calls = readied 0x0C ++ command (0x07 ∷ 0x00 ∷ []); run = refl }
 
 pub checked-examples : CheckedExamples
-unfolding headerIn geometryIn diskIn sizeOf trackLength lengthOf trackAt offsetOf sameOf markOf kindOf entryOf
-    kindNumbered knownBelow filledOf takenOf openedOf givenOf drawnOf advancedOf nextOf stepped sought recalibrated
-    seekStep seekTick recalibrateStep recalibrateTick tickIn tickOf gateOf givenId movingOf startOf enteredOf
-    beginOf followedOf followOf turnOf formatEnd formAwait addressPut addressOf clearOn formedOf fillOf clearOf
-    formOf overrun readOn readOf drainedOf drainOf noIdOf noIdHere idHere identifiedOf identifyOf endOf moveEnd
-    moveFails notFound missedOf readFound dataFound bareFound lookedOf searchOf lostOf stageOf workOf goOnOf
-    hasTrack staysOf markPlace dataPlace underrun awaitOf putOf dryOf writtenOf storeOf answerOf portOf readReg
-    writeReg powerOn readPort writePort dmaRead dmaWrite noteChange answeredOf saidOf saidTwo idledOf specifyOf
-    configureOf sensingOf reporterOf sensedOf soughtOf recalibratedOf moveOrder formatOrder identifyOrder startedOf
-    ranOf runOf gatheredOf goesOn begunOf resultTaken readIn readFifo offeredOf writeFifo dmaReadOf dmaWriteOf
-    freshOf withRegisters withDrives withFifo withBytes withPhase withDrive validOf motorIn busyBits anyBusy
-    pendingIn msrOf intOf drqOf dirOf resetAll resetOf reportAll releasedBy releasedOf withDor withTdr withRate
-    wroteDor wroteDsr answerTo runCalls seenOf tickAll steppedOf st3Of sensedAt stillOf settledOf decidedOf
-    fdc·startOf fdc·workOf decideIn decideOf ruledOf fdc·tickOf imageAfter
+unfolding fdcOpen
 checked-examples = record {
   ex1-srt-0 = chip-examples .ex1-srt-0;
   ex1-srt-13 = chip-examples .ex1-srt-13;

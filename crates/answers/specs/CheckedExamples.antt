@@ -16,15 +16,15 @@ use Rattle.image.specs.Examples.{disk, sample}
 use Rattle.image.specs.Layout.{lengthOf, offsetOf}
 use Rattle.fdc.specs.declared.record.Controller.{Controller}
 use Rattle.fdc.specs.Calls.{powerOn}
-use Rattle.reached.specs.Examples.{logOf, said, start, command, bare}
-use Rattle.reached.specs.Moves.{AllCalm, tickCount}
+use Rattle.fdc.specs.Examples.{logOf, said, start, command, readied, bare}
+use Rattle.fdc.specs.Moves.{AllCalm, tickCount}
 use Rattle.fdc.specs.Record.{driveAt}
-use Rattle.reached.specs.Runs.{Call, reads, writes, ticks, after, runCalls}
-use Rattle.reached.specs.Whole.{given, served}
+use Rattle.fdc.specs.Runs.{Call, reads, ticks, after, runCalls}
+use Rattle.fdc.specs.Whole.{given, served}
 
 -- Recalibrate of drive 0, given after power-on with the head there: SRT is 0, so that T is 1000
 abbrev pub recalibrates : ℕ → Controller
-recalibrates head = runCalls (writes 2 0x0C ∷ command (0x07 ∷ 0x00 ∷ [])) (powerOn head 0 .controller)
+recalibrates head = runCalls (readied 0x0C ++ command (0x07 ∷ 0x00 ∷ [])) (powerOn head 0 .controller)
 
 -- and 79 x 1000 ticks later, whatever calls come between that are no power-on and no reset: the report and the head
 pub record Recalibrated (from report head : ℕ) : Type 0 where
@@ -67,13 +67,14 @@ pub record CheckedExamples : Type 0 where
   pub ex7-from-80 : Recalibrated 80 0x70 1
   -- 8. Sense Drive, drive 0, side 0, head 0, unprotected: 38 (an empty drive counts as unprotected)
   pub ex8 :
-      logOf (reads 5 ∷ []) (runCalls (writes 2 0x0C ∷ command (0x04 ∷ 0x00 ∷ []) ++ (bare ∷ [])) start)
+      logOf (reads 5 ∷ []) (runCalls (readied 0x0C ++ (command (0x04 ∷ 0x00 ∷ []) ++ (bare ∷ []))) start)
       ≡ said 0 0x38 ∷ []
   -- 9. Read, drive 0 empty: 40 01 00
   pub ex9 :
       logOf (reads 5 ∷ reads 5 ∷ reads 5 ∷ [])
       (runCalls
-      (writes 2 0x1C ∷ command (0x46 ∷ 0x00 ∷ 0x00 ∷ 0x00 ∷ 0x01 ∷ 0x02 ∷ 0x09 ∷ 0x1B ∷ 0xFF ∷ []) ++ (bare ∷ []))
+      (readied 0x1C
+      ++ (command (0x46 ∷ 0x00 ∷ 0x00 ∷ 0x00 ∷ 0x01 ∷ 0x02 ∷ 0x09 ∷ 0x1B ∷ 0xFF ∷ []) ++ (bare ∷ [])))
       start)
       ≡ said 0 0x40 ∷ said 0 0x01 ∷ said 0 0x00 ∷ []
   -- 10. B 256, 100 stores: mark 3, 99 new bytes; 258: mark 1

@@ -1,3 +1,4 @@
 pub mod EasyLaws
 pub mod Examples
 pub mod KeptLaws
+pub mod Open

@@ -8,32 +8,11 @@ use borrow.Author.Needs.{needs}
 use Rattle.image.specs.declared.disk.Disk.the-variants.{Present}
 use Rattle.image.specs.Disk.{headerIn, geometryIn, diskIn}
 use Rattle.image.specs.Examples.{disk, sample}
-use Rattle.image.specs.Layout.{sizeOf, trackLength, lengthOf, trackAt, offsetOf, sameOf}
-use Rattle.image.specs.Mark.{markOf}
-use Rattle.chip.specs.Commands.{kindOf, entryOf, kindNumbered, knownBelow}
-use Rattle.chip.specs.Fifo.{openedOf, givenOf, drawnOf}
-use Rattle.chip.specs.Next.{advancedOf, nextOf}
-use Rattle.drive.specs.Step.{tickIn, tickOf}
-use Rattle.sectors.specs.Follow.{followedOf, followOf}
-use Rattle.sectors.specs.Result.{endOf, moveEnd, moveFails}
-use Rattle.sectors.specs.Search.{notFound, missedOf, dataFound, lookedOf, searchOf}
-use Rattle.sectors.specs.Track.{hasTrack, staysOf, markPlace, dataPlace}
-use Rattle.sectors.specs.Write.{underrun, awaitOf, putOf, dryOf, writtenOf, storeOf}
-use Rattle.engine.specs.First.{gateOf, givenId, movingOf, startOf, enteredOf, beginOf}
-use Rattle.engine.specs.Step.{lostOf, stageOf, workOf, goOnOf}
-use Rattle.fdc.specs.Answer.{answerOf}
-use Rattle.fdc.specs.Calls.{portOf, writeReg, powerOn, writePort, dmaWrite}
-use Rattle.fdc.specs.Commands.{answeredOf, idledOf, specifyOf, moveOrder, startedOf, ranOf, runOf, gatheredOf, goesOn}
-use Rattle.fdc.specs.Commands.{begunOf}
-use Rattle.fdc.specs.Data.{offeredOf, writeFifo, dmaWriteOf}
-use Rattle.fdc.specs.Record.{freshOf, withRegisters, withDrives, withFifo, withBytes, withPhase, withDrive, validOf}
-use Rattle.fdc.specs.Registers.{motorIn, busyBits, anyBusy, pendingIn, msrOf, intOf, drqOf}
-use Rattle.fdc.specs.Reset.{resetAll, resetOf, reportAll, releasedBy, releasedOf, withDor, wroteDor}
-use Rattle.reached.specs.Runs.{answerTo, runCalls}
-use Rattle.fdc.specs.Ticks.{seenOf, tickAll, steppedOf, stillOf, settledOf, decidedOf, decideIn, decideOf, ruledOf}
-use Rattle.fdc.specs.Ticks.{startOf as fdc·startOf, workOf as fdc·workOf, tickOf as fdc·tickOf, imageAfter}
+use Rattle.image.specs.Layout.{sizeOf, trackLength, lengthOf}
+use Rattle.fdc.specs.Calls.{powerOn}
 use Rattle.demands.specs.PowerCut.{Writes}
 use Rattle.demands.specs.Work.{Real, Its, imageLeft}
+use Rattle.fdc.proofs.Open.{fdcOpen}
 use Rattle.capi.specs.Word.{wordIn}
 use Rattle.firmware.specs.Calls.{World, BelCall, power-on, dma-write, ticks, worldLeft}
 use Rattle.firmware.specs.Calls.{firstAfter, secondAfter, worldAfter}
@@ -62,10 +41,7 @@ real =
     (from-firmware .real blank (omega arith) 0 0 asked (search needs))
 
 writes : Writes writer ordered written sectorOne
-unfolding kindOf entryOf kindNumbered knownBelow answerOf portOf writeReg powerOn writePort answeredOf idledOf
-    specifyOf moveOrder startedOf ranOf runOf gatheredOf goesOn begunOf offeredOf writeFifo freshOf withRegisters
-    withDrives withFifo withBytes withPhase withDrive validOf busyBits anyBusy msrOf resetAll resetOf reportAll
-    releasedBy releasedOf withDor wroteDor answerTo runCalls callsIn boxLeft imageLeft
+unfolding fdcOpen callsIn boxLeft imageLeft
 writes = record { accepted = refl; moves = refl; writes = refl }
 
 mounts : diskIn (sample 2) ≡ Present (disk 1 1 2 1)
@@ -81,16 +57,8 @@ stores-same : (n : ℕ) (w : World) (x : Box) → Shows w x
 stores-same n w x s = rw (s .first, s .second, s .record-is .back)
 
 pub examples : Examples
-unfolding headerIn geometryIn diskIn sizeOf trackLength lengthOf trackAt offsetOf sameOf markOf kindOf entryOf
-    kindNumbered knownBelow answerOf portOf writeReg powerOn writePort answeredOf idledOf specifyOf moveOrder
-    startedOf ranOf runOf gatheredOf goesOn begunOf offeredOf writeFifo freshOf withRegisters withDrives withFifo
-    withBytes withPhase withDrive validOf busyBits anyBusy msrOf resetAll resetOf reportAll releasedBy releasedOf
-    withDor wroteDor answerTo runCalls openedOf givenOf drawnOf advancedOf nextOf tickIn tickOf gateOf givenId
-    movingOf startOf enteredOf beginOf followedOf followOf endOf moveEnd moveFails notFound missedOf dataFound
-    lookedOf searchOf lostOf stageOf workOf goOnOf hasTrack staysOf markPlace dataPlace underrun awaitOf putOf dryOf
-    writtenOf storeOf dmaWrite dmaWriteOf motorIn pendingIn intOf drqOf seenOf tickAll steppedOf stillOf settledOf
-    decidedOf fdc·startOf fdc·workOf decideIn decideOf ruledOf fdc·tickOf imageAfter imageLeft Its wordIn worldLeft
-    firstAfter secondAfter callsIn boxLeft callsMade ticksFrom ticksMade lastOf wordBy Stays storesOf
+unfolding fdcOpen imageLeft Its wordIn worldLeft firstAfter secondAfter callsIn boxLeft callsMade ticksFrom ticksMade
+    lastOf wordBy Stays storesOf
 examples =
     record {
       accepted = accepts;

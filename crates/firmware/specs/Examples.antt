@@ -28,11 +28,12 @@ abbrev pub command : List ℕ → List BelCall
 command [] = []
 command (byte ∷ bytes) = write-port 5 byte ∷ command bytes
 
--- motor 0 on; Specify with DMA; Write Data of sector 1, C 0 H 0 N 1, EOT 2
+-- motor 0 on, Configure with EFIFO 1; Specify with DMA; Write Data of sector 1, C 0 H 0 N 1, EOT 2
 abbrev pub asked : List BelCall
 asked =
     write-port 2 0x1C
-    ∷ (command (0x03 ∷ 0xDF ∷ 0x02 ∷ []) ++ command (0x45 ∷ 0 ∷ 0 ∷ 0 ∷ 1 ∷ 1 ∷ 2 ∷ 0x1B ∷ 0xFF ∷ []))
+    ∷ (command (0x13 ∷ 0x00 ∷ 0x20 ∷ 0x00 ∷ [])
+    ++ (command (0x03 ∷ 0xDF ∷ 0x02 ∷ []) ++ command (0x45 ∷ 0 ∷ 0 ∷ 0 ∷ 1 ∷ 1 ∷ 2 ∷ 0x1B ∷ 0xFF ∷ [])))
 
 abbrev pub begun : World
 begun = worldLeft (power-on 0 0 ∷ asked) blank

@@ -38,6 +38,11 @@ abbrev pub command : List ℕ → List Call
 command [] = []
 command (byte ∷ bytes) = writes 5 byte ∷ command bytes
 
+-- a host's first calls: DOR, which takes the box out of reset, and Configure with EFIFO 1, FIFOTHR 0, POLL 0, PRETRK 0.
+-- Closed runs begin so, and do not rest on the FIFO's values at power-on
+abbrev pub readied : ℕ → List Call
+readied dor = writes 2 dor ∷ command (0x13 ∷ 0x00 ∷ 0x20 ∷ 0x00 ∷ [])
+
 -- a tick without images
 abbrev pub bare : Call
 bare = ticks [] []
@@ -50,12 +55,13 @@ pub record Examples : Type 0 where
   -- 01 Example 8: Sense Drive, drive 0, side 0, head 0, unprotected: 38
   pub ex8 :
       logOf (reads 5 ∷ [])
-      (runCalls (writes 2 0x0C ∷ command (0x04 ∷ 0x00 ∷ []) ++ (bare ∷ [])) start)
+      (runCalls (readied 0x0C ++ (command (0x04 ∷ 0x00 ∷ []) ++ (bare ∷ []))) start)
       ≡ said 0 0x38 ∷ []
   -- 01 Example 9: Read, drive 0 empty: 40 01 00
   pub ex9 :
       logOf (reads 5 ∷ reads 5 ∷ reads 5 ∷ [])
       (runCalls
-      (writes 2 0x1C ∷ command (0x46 ∷ 0x00 ∷ 0x00 ∷ 0x00 ∷ 0x01 ∷ 0x02 ∷ 0x09 ∷ 0x1B ∷ 0xFF ∷ []) ++ (bare ∷ []))
+      (readied 0x1C
+      ++ (command (0x46 ∷ 0x00 ∷ 0x00 ∷ 0x00 ∷ 0x01 ∷ 0x02 ∷ 0x09 ∷ 0x1B ∷ 0xFF ∷ []) ++ (bare ∷ [])))
       start)
       ≡ said 0 0x40 ∷ said 0 0x01 ∷ said 0 0x00 ∷ []

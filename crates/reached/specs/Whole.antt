@@ -1,5 +1,5 @@
 -- Whole commands, run on the definitions call by call, so that a reader sees them run: 01 Data commands. A host
--- that serves every request by DMA; the FIFO is off, as at power-on. The proofs are in proofs/Whole.antt.
+-- that serves every request by DMA; Configure has put the FIFO off. The proofs are in proofs/Whole.antt.
 -- Assumes nothing.
 use Prim.Native.Nat.{ℕ, zero, suc, _+_}
 use mathlib.Core.Bool.{Bool, true, false, _&&_}
@@ -9,13 +9,13 @@ use lib.Dec.{eqb}
 use lib.ListN.{getD, take, drop, replicate}
 use Rattle.image.specs.Disk.{headerOf}
 use Rattle.image.specs.Examples.{disk, sample}
 use Rattle.fdc.specs.declared.record.Controller.{Controller}
 use Rattle.fdc.specs.Answer.{valueOf}
 use Rattle.fdc.specs.Calls.{dmaRead, dmaWrite}
-use Rattle.reached.specs.Examples.{start, command}
+use Rattle.fdc.specs.Examples.{start, command, readied}
 use Rattle.fdc.specs.Registers.{drqOf}
-use Rattle.reached.specs.Runs.{writes, runCalls}
+use Rattle.fdc.specs.Runs.{runCalls}
 use Rattle.fdc.specs.Ticks.{tickOf, imageAfter}
 
 -- the box, the image in drive 0, the bytes that the host will give, and those that it has got, the newest first
 pub record Scene : Type 0 where
@@ -24,10 +24,10 @@ pub record Scene : Type 0 where
   pub host : List ℕ
   pub got : List ℕ
 
--- motor 0 on, and a command given
+-- motor 0 on, Configure, and a command given
 abbrev pub given : List ℕ → List ℕ → List ℕ → Scene
 given bytes host img =
-    record { box = runCalls (writes 2 0x1C ∷ command bytes) start; img = img; host = host; got = [] }
+    record { box = runCalls (readied 0x1C ++ command bytes) start; img = img; host = host; got = [] }
 
 abbrev pub ticked : Scene → Scene
 ticked s =

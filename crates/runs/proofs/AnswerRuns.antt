@@ -3,12 +3,12 @@
 use Prim.Native.Nat.{zero, suc}
 use native.Mathlib.Omega.{arith}
 use mathlib.Core.Bool.{false, false≢true}
-use mathlib.Core.List.{[], _∷_}
+use mathlib.Core.List.{[], _∷_, _++_}
 use mathlib.Core.Path.{refl, ap}
 use Rattle.engine.specs.First as First
 use Rattle.sectors.specs.declared.order.Pass.{Pass}
-use Rattle.reached.specs.Examples.{command}
-use Rattle.reached.specs.Runs.{writes}
+use Rattle.fdc.specs.Examples.{command, readied}
+use Rattle.fdc.specs.Runs.{writes}
 use Rattle.answers.specs.Accepts.{Ready}
 use Rattle.answers.specs.CommandResults.{NoneBusy}
 use Rattle.answers.specs.OnlyWrites.{AllHanded}
@@ -37,7 +37,7 @@ unfolding allOpen
 seeks-on =
     waits-ready seeks
     (record {
-      real = real-box 0 (writes 2 0x1C ∷ command (0x0F ∷ 0x01 ∷ 0x05 ∷ [])) refl;
+      real = real-box 0 (readied 0x1C ++ command (0x0F ∷ 0x01 ∷ 0x05 ∷ [])) refl;
       idle = refl;
       free = refl;
     })
@@ -67,8 +67,8 @@ answer-runs = record {
   free = refl;
   takes-seek = accepts seeks .seek 0x00 0x03 seeks-on refl;
   seven = reads-out .reached failed (real-box 0 (given (move 0x46 1 2) (on 1 [])) refl) refl;
-  one = reads-out .reached-any versioned (real-box 0 (writes 2 0x0C ∷ command (0x10 ∷ [])) refl) refl .0;
-  two = reads-out .reached-any sensed (real-box 0 (writes 2 0x0C ∷ command (0x08 ∷ [])) refl) refl .0;
+  one = reads-out .reached-any versioned (real-box 0 (readied 0x0C ++ command (0x10 ∷ [])) refl) refl .0;
+  two = reads-out .reached-any sensed (real-box 0 (readied 0x0C ++ command (0x08 ∷ [])) refl) refl .0;
   gate = refl;
   pending = of-drive 0 (omega arith) (λ e. omega (arith, e));
   seven-out =
@@ -76,7 +76,7 @@ answer-runs = record {
       (reads-out .reached failed (real-box 0 (given (move 0x46 1 2) (on 1 [])) refl) refl);
   two-out =
       reads-out .any sensed false 2 (omega arith)
-      (reads-out .reached-any sensed (real-box 0 (writes 2 0x0C ∷ command (0x08 ∷ [])) refl) refl .0);
+      (reads-out .reached-any sensed (real-box 0 (readied 0x0C ++ command (0x08 ∷ [])) refl) refl .0);
   stores-not = λ e. false≢true (ap (λ (p : Pass). First.writes p) e);
   suited = refl;
   stores = refl;

@@ -29,8 +29,8 @@ use Rattle.sectors.specs.declared.order.Pass.{Pass}
 use Rattle.sectors.specs.declared.order.Pass.the-variants.{Read, Write}
 use Rattle.fdc.specs.declared.record.Controller.{Controller}
 use Rattle.fdc.specs.declared.record.Phase.the-variants.{Starting, Sensing, Answering}
-use Rattle.reached.specs.Examples.{start, command, bare}
-use Rattle.reached.specs.Moves.{AllCalm, tickCount}
+use Rattle.fdc.specs.Examples.{start, command, readied, bare}
+use Rattle.fdc.specs.Moves.{AllCalm, tickCount}
 use Rattle.fdc.specs.Record.{driveAt}
 use Rattle.reached.specs.Runs.{Call, writes, gives, ticks, after}
 use Rattle.demands.specs.EndsInTime.{boundOf, Completes, byteNo}
@@ -43,9 +43,9 @@ use Rattle.runs.proofs.Open.{allOpen}
 abbrev small : List ℕ
 small = headerOf (disk 1 1 1 1) ++ ((0x02 ∷ 0x01 ∷ 0x07 ∷ 0 ∷ 0 ∷ []) ++ (sector 1 ++ (0x03 ∷ 0 ∷ 0 ∷ [])))
 
--- motor 0 on, and command bytes written
+-- motor 0 on, Configure, and command bytes written
 abbrev wrote : List ℕ → List Call
-wrote bytes = writes 2 0x1C ∷ command bytes
+wrote bytes = readied 0x1C ++ command bytes
 
 abbrev given : List ℕ → Controller
 given bytes = runCalls (wrote bytes) start
@@ -65,7 +65,7 @@ given-real bytes h = record {
   head0 = 0;
   head1 = 0;
   calls = wrote bytes;
-  bytes = ((omega arith, omega arith), command-bytes bytes h);
+  bytes = ((omega arith, omega arith), command-bytes (0x13 ∷ 0x00 ∷ 0x20 ∷ 0x00 ∷ bytes) h);
   run = refl;
 }
 

@@ -29,6 +29,7 @@ register-runs = record {
   by-gate = refl;
   drq-on = refl;
   drq-gate = refl;
+  power-on-fifo = refl;
   changed = refl;
   unchanged = refl;
   noted = refl;

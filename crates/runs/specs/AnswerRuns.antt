@@ -3,7 +3,7 @@
 -- Assumes nothing.
 use Prim.Native.Nat.{ℕ, suc}
 use mathlib.Core.Bool.{true, false}
-use mathlib.Core.List.{List, [], _∷_}
+use mathlib.Core.List.{List, [], _∷_, _++_}
 use mathlib.Core.Path.{_≡_}
 use lib.ListN.{length, drop, set}
 use Rattle.chip.specs.Commands.{kindOf, bytesOf}
@@ -13,7 +13,7 @@ use Rattle.drive.specs.declared.Motion.the-variants.{Seeking}
 use Rattle.drive.specs.Drive.{firstWait}
 use Rattle.fdc.specs.declared.record.Controller.{Controller}
 use Rattle.fdc.specs.Commands.{ticksOf}
-use Rattle.reached.specs.Examples.{command}
+use Rattle.fdc.specs.Examples.{command, readied}
 use Rattle.fdc.specs.Record.{driveAt}
 use Rattle.reached.specs.Runs.{writes}
 use Rattle.answers.specs.Accepts.{Ready, Moves, Begun, Refuses, Configured, afterBytes}
@@ -30,17 +30,17 @@ waits = box 0 (writes 2 0x1C ∷ command (0x13 ∷ 0x00 ∷ 0x0F ∷ 0x00 ∷ []
 
 -- a Seek of drive 1
 abbrev pub seeks : Controller
-seeks = box 0 (writes 2 0x1C ∷ command (0x0F ∷ 0x01 ∷ 0x05 ∷ []))
+seeks = box 0 (readied 0x1C ++ command (0x0F ∷ 0x01 ∷ 0x05 ∷ []))
 
 -- a Read on an empty drive has failed; Version; Sense Interrupt
 abbrev pub failed : Controller
 failed = box 0 (given (move 0x46 1 2) (on 1 []))
 
 abbrev pub versioned : Controller
-versioned = box 0 (writes 2 0x0C ∷ command (0x10 ∷ []))
+versioned = box 0 (readied 0x0C ++ command (0x10 ∷ []))
 
 abbrev pub sensed : Controller
-sensed = box 0 (writes 2 0x0C ∷ command (0x08 ∷ []))
+sensed = box 0 (readied 0x0C ++ command (0x08 ∷ []))
 
 -- a Read and a Write at work
 abbrev pub reader : Controller

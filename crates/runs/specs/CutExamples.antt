@@ -1,5 +1,5 @@
 -- Write commands that are cut, call by call: each premise of `PowerCut` and `OtherImage` is met, and the history
--- computes. The host serves by DMA or by the FIFO's port; the FIFO is off, as at power-on. The proofs are in
+-- computes. The host serves by DMA or by the FIFO's port; Configure has put the FIFO off. The proofs are in
 -- proofs/CutExamples.antt.
 -- Assumes nothing.
 use Prim.Native.Nat.{ℕ, zero, suc}
@@ -18,19 +18,19 @@ use Rattle.sectors.specs.declared.order.Pass.the-variants.{Write}
 use Rattle.sectors.specs.declared.order.Transfer.{Transfer}
 use Rattle.fdc.specs.declared.answer.Reply.{Reply}
 use Rattle.fdc.specs.declared.record.Controller.{Controller}
-use Rattle.reached.specs.Examples.{start, command}
-use Rattle.reached.specs.Runs.{Call, writes, gives, ticks, answerTo, after, runCalls}
+use Rattle.fdc.specs.Examples.{start, command, readied}
+use Rattle.fdc.specs.Runs.{Call, writes, gives, ticks, answerTo, after, runCalls}
 use Rattle.fdc.specs.Ticks.{imageAfter}
 use Rattle.demands.specs.History.{no-one, some-of, History, fresh, taken, historyOf}
 use Rattle.demands.specs.PowerCut.{Writes}
 use Rattle.demands.specs.Work.{Real, Its, Alone}
 
--- motor 0 on; Specify, whose last bit ND is off for DMA; Write Data of sector 1, C 0 H 0 N 1, EOT 2
+-- motor 0 on, Configure; Specify, whose last bit ND is off for DMA; Write Data of sector 1, C 0 H 0 N 1, EOT 2
 abbrev pub specify : Bool → List ℕ
 specify dma = 0x03 ∷ 0xDF ∷ cond dma 0x02 0x03 ∷ []
 
 abbrev pub asked : Bool → List Call
-asked dma = writes 2 0x1C ∷ (command (specify dma) ++ command (0x45 ∷ 0 ∷ 0 ∷ 0 ∷ 1 ∷ 1 ∷ 2 ∷ 0x1B ∷ 0xFF ∷ []))
+asked dma = readied 0x1C ++ (command (specify dma) ++ command (0x45 ∷ 0 ∷ 0 ∷ 0 ∷ 1 ∷ 1 ∷ 2 ∷ 0x1B ∷ 0xFF ∷ []))
 
 abbrev pub writer : Bool → Controller
 writer dma = runCalls (asked dma) start

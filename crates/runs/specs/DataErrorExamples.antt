@@ -4,7 +4,7 @@
 -- Assumes nothing.
 use Prim.Native.Nat.{ℕ, zero, suc, _≤_}
 use mathlib.Core.Bool.{true, false}
-use mathlib.Core.List.{List, [], _∷_}
+use mathlib.Core.List.{List, [], _∷_, _++_}
 use mathlib.Core.Path.{_≡_}
 use lib.ListN.{take, drop}
 use Rattle.image.specs.declared.slot.Id.{Id}
@@ -15,9 +15,9 @@ use Rattle.sectors.specs.declared.order.Order.{Order}
 use Rattle.sectors.specs.declared.order.Pass.the-variants.{Read}
 use Rattle.sectors.specs.declared.order.Transfer.{Transfer}
 use Rattle.fdc.specs.declared.record.Controller.{Controller}
-use Rattle.reached.specs.Examples.{start, command}
-use Rattle.reached.specs.Moves.{tickCount}
-use Rattle.reached.specs.Runs.{Call, writes, takes, ticks, after, runCalls}
+use Rattle.fdc.specs.Examples.{start, command, readied}
+use Rattle.fdc.specs.Moves.{tickCount}
+use Rattle.fdc.specs.Runs.{Call, takes, ticks, after, runCalls}
 use Rattle.fdc.specs.Ticks.{imageAfter}
 use Rattle.runs.specs.CutExamples.{writer, written, sectorOne, ordered, cutCalls, full}
 use Rattle.demands.specs.DataError.{ReadsIt, Spins, DataErrorOrLate, DataErrorAt}
@@ -31,9 +31,9 @@ use Rattle.demands.specs.Work.{Real, Its, Alone, imageLeft, Ends}
 abbrev pub wrote : List Call
 wrote = cutCalls true full 272
 
--- motor 0 on; Read Data of sector 2, C 0 H 0 N 1, EOT 2
+-- motor 0 on, Configure; Read Data of sector 2, C 0 H 0 N 1, EOT 2
 abbrev pub asks : List Call
-asks = writes 2 0x1C ∷ command (0x46 ∷ 0 ∷ 0 ∷ 0 ∷ 2 ∷ 1 ∷ 2 ∷ 0x1B ∷ 0xFF ∷ [])
+asks = readied 0x1C ++ command (0x46 ∷ 0 ∷ 0 ∷ 0 ∷ 2 ∷ 1 ∷ 2 ∷ 0x1B ∷ 0xFF ∷ [])
 
 abbrev pub reader : Controller
 reader = runCalls asks start

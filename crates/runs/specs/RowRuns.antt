@@ -11,13 +11,13 @@ use Rattle.image.specs.Examples.{sample}
 use Rattle.engine.specs.Examples.{chr}
 use Rattle.fdc.specs.declared.record.Controller.{Controller}
 use Rattle.fdc.specs.Calls.{powerOn}
-use Rattle.reached.specs.Examples.{command}
-use Rattle.reached.specs.Runs.{Call, writes, takes, gives, ticks, after, runCalls}
+use Rattle.fdc.specs.Examples.{command, readied}
+use Rattle.fdc.specs.Runs.{Call, takes, gives, ticks, after, runCalls}
 use Rattle.answers.specs.Results.{Result, zeros}
 
--- power-on with the head of drive 0 there, motor 0 on, the calls of a command, and what follows them
+-- power-on with the head of drive 0 there, motor 0 on, Configure, the calls of a command, and what follows them
 abbrev pub given : List ℕ → List Call → List Call
-given bytes calls = writes 2 0x1C ∷ command bytes ++ calls
+given bytes calls = readied 0x1C ++ (command bytes ++ calls)
 
 abbrev pub box : ℕ → List Call → Controller
 box head calls = runCalls calls (powerOn head 0 .controller)
