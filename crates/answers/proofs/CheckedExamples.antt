@@ -5,14 +5,14 @@ use native.Mathlib.Omega.{arith}
 use mathlib.Core.List.{[], _∷_, _++_}
 use mathlib.Core.Path.{refl}
 use Rattle.drive.specs.Drive.{fresh}
-use Rattle.fdc.specs.Examples.{command, readied}
-use Rattle.fdc.specs.Runs.{Reached}
+use Rattle.reached.specs.Examples.{command, readied}
+use Rattle.reached.specs.Runs.{Reached}
 use Rattle.image.proofs.Examples.{examples as image-examples}
 use Rattle.chip.proofs.Examples.{checked-examples as chip-examples}
-use Rattle.fdc.proofs.Examples.{examples as fdc-examples}
-use Rattle.fdc.proofs.Open.{fdcOpen}
-use Rattle.fdc.proofs.SeekLaws.{recalibrate-on-time}
-use Rattle.fdc.proofs.Whole.{cut-whole}
+use Rattle.reached.proofs.Examples.{examples as fdc-examples}
+use Rattle.reached.proofs.Open.{callsOpen}
+use Rattle.reached.proofs.SeekLaws.{recalibrate-on-time}
+use Rattle.reached.proofs.Whole.{cut-whole}
 use Rattle.answers.specs.CheckedExamples.{recalibrates, Recalibrated, CheckedExamples}
 
 reached : (head : ℕ) → Reached (recalibrates head)
@@ -20,7 +20,7 @@ reached head =
     record { head0 = head; head1 = 0; calls = readied 0x0C ++ command (0x07 ∷ 0x00 ∷ []); run = refl }
 
 pub checked-examples : CheckedExamples
-unfolding fdcOpen
+unfolding callsOpen
 checked-examples = record {
   ex1-srt-0 = chip-examples .ex1-srt-0;
   ex1-srt-13 = chip-examples .ex1-srt-13;

@@ -16,11 +16,11 @@ use Rattle.image.specs.Examples.{disk, sample}
 use Rattle.image.specs.Layout.{lengthOf, offsetOf}
 use Rattle.fdc.specs.declared.record.Controller.{Controller}
 use Rattle.fdc.specs.Calls.{powerOn}
-use Rattle.fdc.specs.Examples.{logOf, said, start, command, readied, bare}
-use Rattle.fdc.specs.Moves.{AllCalm, tickCount}
+use Rattle.reached.specs.Examples.{logOf, said, start, command, readied, bare}
+use Rattle.reached.specs.Moves.{AllCalm, tickCount}
 use Rattle.fdc.specs.Record.{driveAt}
-use Rattle.fdc.specs.Runs.{Call, reads, ticks, after, runCalls}
-use Rattle.fdc.specs.Whole.{given, served}
+use Rattle.reached.specs.Runs.{Call, reads, ticks, after, runCalls}
+use Rattle.reached.specs.Whole.{given, served}
 
 -- Recalibrate of drive 0, given after power-on with the head there: SRT is 0, so that T is 1000
 abbrev pub recalibrates : ℕ → Controller

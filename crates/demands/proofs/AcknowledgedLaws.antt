@@ -17,7 +17,7 @@ use Rattle.fdc.specs.declared.ticks.Decision.{Decision}
 use Rattle.fdc.specs.Commands.{answeredOf}
 use Rattle.reached.specs.Moves.{Calm, AllCalm}
 use Rattle.fdc.specs.Record.{withFifo, withPhase}
-use Rattle.fdc.specs.Runs.{Call, ticks, after, runCalls}
+use Rattle.reached.specs.Runs.{Call, ticks, after, runCalls}
 use Rattle.fdc.specs.Ticks.{settledOf, decidedOf, ruledOf}
 use Rattle.demands.specs.Acknowledged.{Acknowledged, ResultWaits}
 use Rattle.demands.specs.Work.{atWork, Its, Real}

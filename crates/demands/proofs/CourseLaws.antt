@@ -10,7 +10,7 @@ use Rattle.image.specs.Lent.{pickOf}
 use Rattle.fdc.specs.declared.record.Controller.{Controller}
 use Rattle.reached.specs.Moves.{Calm}
 use Rattle.fdc.specs.Registers.{motorIn}
-use Rattle.fdc.specs.Runs.{Call, ticks, after}
+use Rattle.reached.specs.Runs.{Call, ticks, after}
 use Rattle.demands.specs.DataError.{Spins}
 use Rattle.demands.specs.InTime.{AtTick, AtTicks}
 use Rattle.demands.specs.Quiet.{Proper, Quiet}

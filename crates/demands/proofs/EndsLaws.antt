@@ -36,7 +36,7 @@ use Rattle.fdc.specs.Commands.{answeredOf, saidOf}
 use Rattle.reached.specs.Moves.{tickOne, tickCount}
 use Rattle.fdc.specs.Record.{driveAt, withFifo, withPhase}
 use Rattle.fdc.specs.Registers.{heldIn, motorIn}
-use Rattle.fdc.specs.Runs.{Call, ticks, after}
+use Rattle.reached.specs.Runs.{Call, ticks, after}
 use Rattle.fdc.specs.Ticks.{seenOf, sensedAt, stillOf, settledOf, decidedOf, decideIn, decideOf, ruledOf, imageAfter}
 use Rattle.reached.proofs.GoodLaws.{good-valid}
 use Rattle.demands.specs.EndsInTime.{boundOf, EndsInTime, EndsInOne, SensesInOne}

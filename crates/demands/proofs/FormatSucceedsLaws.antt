@@ -34,7 +34,7 @@ use Rattle.fdc.specs.Commands.{answeredOf}
 use Rattle.reached.specs.Moves.{Calm}
 use Rattle.fdc.specs.Record.{withFifo, withPhase}
 use Rattle.fdc.specs.Registers.{motorIn}
-use Rattle.fdc.specs.Runs.{Call, ticks, after}
+use Rattle.reached.specs.Runs.{Call, ticks, after}
 use Rattle.fdc.specs.Ticks.{seenOf, settledOf, decidedOf, ruledOf}
 use Rattle.demands.specs.DataError.{Spins}
 use Rattle.demands.specs.FormatScript.{storesBy, Allowed}

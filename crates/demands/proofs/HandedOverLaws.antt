@@ -62,7 +62,7 @@ use Rattle.fdc.specs.Commands.{answeredOf}
 use Rattle.fdc.specs.Data.{phaseFromHost}
 use Rattle.fdc.specs.Record.{driveAt, withFifo, withPhase}
 use Rattle.fdc.specs.Registers.{motorIn}
-use Rattle.fdc.specs.Runs.{Call, ticks, answerTo, after, runCalls}
+use Rattle.reached.specs.Runs.{Call, ticks, answerTo, after, runCalls}
 use Rattle.fdc.specs.Ticks.{seenOf, settledOf, decidedOf, ruledOf, tickOf, imageAfter}
 use Rattle.demands.specs.Acknowledged.{resultByte, resultId}
 use Rattle.demands.specs.HandedOver.{Taken, untaken, takenBy, takenOver, tookOne, IsGood, IsOther, Passed, was-read, was-skipped, Ways, Tells, Hands, HandedOver, HandedPlain}

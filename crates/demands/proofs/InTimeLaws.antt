@@ -41,7 +41,7 @@ use Rattle.fdc.specs.declared.ticks.Decision.{Decision}
 use Rattle.reached.specs.Good.{Suits}
 use Rattle.fdc.specs.Commands.{answeredOf}
 use Rattle.fdc.specs.Record.{withFifo, withPhase}
-use Rattle.fdc.specs.Runs.{Call, ticks, after, runCalls}
+use Rattle.reached.specs.Runs.{Call, ticks, after, runCalls}
 use Rattle.fdc.specs.Ticks.{settledOf, decidedOf, ruledOf}
 use Rattle.demands.specs.Acknowledged.{resultByte}
 use Rattle.demands.specs.InTime.{Late, LatePhase, AtTick, AtTicks, Timely, InTime, RequestOff, Prompt, PromptInTime, NeverLate}

@@ -24,7 +24,7 @@ use Rattle.fdc.specs.Answer.{answerOf}
 use Rattle.fdc.specs.Commands.{answeredOf}
 use Rattle.fdc.specs.Record.{validOf, withFifo, withPhase}
 use Rattle.fdc.specs.Registers.{heldIn}
-use Rattle.fdc.specs.Runs.{Call, answerTo, after, runCalls}
+use Rattle.reached.specs.Runs.{Call, answerTo, after, runCalls}
 use Rattle.fdc.specs.Ticks.{steppedOf, stillOf, settledOf, decidedOf, decideIn, decideOf, ruledOf, tickOf, imageAfter}
 use Rattle.demands.specs.PowerCut.{OtherImage}
 use Rattle.demands.specs.Work.{atWork, Its, Real}

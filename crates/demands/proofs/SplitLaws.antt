@@ -5,8 +5,8 @@ use Prim.Native.Nat.{ℕ}
 use mathlib.Core.List.{List}
 use mathlib.Core.Path.{_≡_, refl}
 use Rattle.fdc.specs.declared.record.Controller.{Controller}
-use Rattle.fdc.specs.Moves.{Calm, tickOne}
-use Rattle.fdc.specs.Runs.{Call, powers, reads, writes, takes, gives, ticks, notes}
+use Rattle.reached.specs.Moves.{Calm, tickOne}
+use Rattle.reached.specs.Runs.{Call, powers, reads, writes, takes, gives, ticks, notes}
 use Rattle.demands.specs.HandedOver.{Taken, takenBy}
 use Rattle.demands.specs.InTime.{AtTick}
 use Rattle.demands.specs.Work.{imageBy}

@@ -1,9 +1,4 @@
 pub mod AnswerLaws
-pub mod Examples
-pub mod GoodLaws
-pub mod MoveLaws
 pub mod Open
-pub mod ResetLaws
-pub mod SeekLaws
 pub mod StandLaws
 pub mod ValidLaws

@@ -1,5 +1,4 @@
--- One name for all that a closed run of calls computes with: `unfolding fdcOpen` opens the machine from the ports down to
--- the image. A new definition of this crate is added here.
+-- One name for all that a call computes with: `unfolding fdcOpen` opens the machine from the ports down to the image. A new definition of this crate is added here.
 -- Assumes nothing.
 use Rattle.chip.specs.Commands.{kindOf, entryOf, kindNumbered, knownBelow}
 use Rattle.drive.specs.Step.{stepped, sought, recalibrated, seekStep, seekTick, recalibrateStep, recalibrateTick}
@@ -17,7 +16,6 @@ use Rattle.fdc.specs.Record.{validOf}
 use Rattle.fdc.specs.Registers.{motorIn, busyBits, anyBusy, pendingIn, msrOf, intOf, drqOf, dirOf}
 use Rattle.fdc.specs.Reset.{resetAll, resetOf, reportAll, releasedBy, releasedOf, withDor, withTdr, withRate}
 use Rattle.fdc.specs.Reset.{wroteDor, wroteDsr}
-use Rattle.fdc.specs.Runs.{answerTo, runCalls}
 use Rattle.fdc.specs.Ticks.{seenOf, tickAll, steppedOf, st3Of, sensedAt, stillOf, settledOf, decidedOf}
 use Rattle.fdc.specs.Ticks.{startOf, workOf, decideIn, decideOf, ruledOf, tickOf as fdc·tickOf, imageAfter}
 
@@ -28,7 +26,7 @@ unfolding engineOpen kindOf entryOf kindNumbered knownBelow stepped sought recal
     soughtOf recalibratedOf moveOrder formatOrder identifyOrder startedOf ranOf runOf gatheredOf goesOn begunOf
     resultTaken readIn readFifo offeredOf writeFifo dmaReadOf dmaWriteOf freshOf withRegisters withDrives withFifo
     withBytes withPhase withDrive validOf motorIn busyBits anyBusy pendingIn msrOf intOf drqOf dirOf resetAll resetOf
-    reportAll releasedBy releasedOf withDor withTdr withRate wroteDor wroteDsr answerTo runCalls seenOf tickAll
+    reportAll releasedBy releasedOf withDor withTdr withRate wroteDor wroteDsr seenOf tickAll
     steppedOf st3Of sensedAt stillOf settledOf decidedOf startOf workOf decideIn decideOf ruledOf fdc·tickOf
     imageAfter
 fdcOpen = tt

@@ -12,7 +12,7 @@ use Rattle.image.specs.Layout.{sizeOf, trackLength, lengthOf}
 use Rattle.fdc.specs.Calls.{powerOn}
 use Rattle.demands.specs.PowerCut.{Writes}
 use Rattle.demands.specs.Work.{Real, Its, imageLeft}
-use Rattle.fdc.proofs.Open.{fdcOpen}
+use Rattle.reached.proofs.Open.{callsOpen}
 use Rattle.capi.specs.Word.{wordIn}
 use Rattle.firmware.specs.Calls.{World, BelCall, power-on, dma-write, ticks, worldLeft}
 use Rattle.firmware.specs.Calls.{firstAfter, secondAfter, worldAfter}
@@ -41,7 +41,7 @@ real =
     (from-firmware .real blank (omega arith) 0 0 asked (search needs))
 
 writes : Writes writer ordered written sectorOne
-unfolding fdcOpen callsIn boxLeft imageLeft
+unfolding callsOpen callsIn boxLeft imageLeft
 writes = record { accepted = refl; moves = refl; writes = refl }
 
 mounts : diskIn (sample 2) ≡ Present (disk 1 1 2 1)
@@ -57,7 +57,7 @@ stores-same : (n : ℕ) (w : World) (x : Box) → Shows w x
 stores-same n w x s = rw (s .first, s .second, s .record-is .back)
 
 pub examples : Examples
-unfolding fdcOpen imageLeft Its wordIn worldLeft firstAfter secondAfter callsIn boxLeft callsMade ticksFrom ticksMade
+unfolding callsOpen imageLeft Its wordIn worldLeft firstAfter secondAfter callsIn boxLeft callsMade ticksFrom ticksMade
     lastOf wordBy Stays storesOf
 examples =
     record {

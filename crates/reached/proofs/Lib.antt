@@ -1,6 +1,7 @@
 pub mod Examples
 pub mod GoodLaws
 pub mod MoveLaws
+pub mod Open
 pub mod ResetLaws
 pub mod RuleLaws
 pub mod Rules

@@ -1,15 +1,15 @@
 -- Whole commands on the definitions, by computation.
 -- Assumes nothing.
 use mathlib.Core.Path.{refl}
-use Rattle.fdc.specs.Whole.{ReadWhole, TurnedWhole, CutWhole, ReadAfterCut, FormattedWhole}
-use Rattle.fdc.proofs.Open.{fdcOpen}
+use Rattle.reached.specs.Whole.{ReadWhole, TurnedWhole, CutWhole, ReadAfterCut, FormattedWhole}
+use Rattle.reached.proofs.Open.{callsOpen}
 
 pub read-whole : ReadWhole
-unfolding fdcOpen
+unfolding callsOpen
 read-whole = record { read-bytes = refl; read-result = refl }
 
 pub turned-whole : TurnedWhole
-unfolding fdcOpen
+unfolding callsOpen
 turned-whole = record {
   both-side-0-first = refl;
   both-side-0-last = refl;
@@ -19,13 +19,13 @@ turned-whole = record {
 }
 
 pub cut-whole : CutWhole
-unfolding fdcOpen
+unfolding callsOpen
 cut-whole = record { cut-mark = refl; cut-bytes = refl; cut-before = refl; cut-address = refl; cut-behind = refl }
 
 pub read-after-cut : ReadAfterCut
-unfolding fdcOpen
+unfolding callsOpen
 read-after-cut = record { cut-read = refl }
 
 pub formatted-whole : FormattedWhole
-unfolding fdcOpen
+unfolding callsOpen
 formatted-whole = record { formatted-slot = refl; formatted-left = refl; formatted-result = refl }

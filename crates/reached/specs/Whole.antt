@@ -12,9 +12,9 @@ use Rattle.image.specs.Examples.{disk, sample}
 use Rattle.fdc.specs.declared.record.Controller.{Controller}
 use Rattle.fdc.specs.Answer.{valueOf}
 use Rattle.fdc.specs.Calls.{dmaRead, dmaWrite}
-use Rattle.fdc.specs.Examples.{start, command, readied}
+use Rattle.reached.specs.Examples.{start, command, readied}
 use Rattle.fdc.specs.Registers.{drqOf}
-use Rattle.fdc.specs.Runs.{runCalls}
+use Rattle.reached.specs.Runs.{runCalls}
 use Rattle.fdc.specs.Ticks.{tickOf, imageAfter}
 
 -- the box, the image in drive 0, the bytes that the host will give, and those that it has got, the newest first

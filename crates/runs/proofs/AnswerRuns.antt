@@ -7,8 +7,8 @@ use mathlib.Core.List.{[], _∷_, _++_}
 use mathlib.Core.Path.{refl, ap}
 use Rattle.engine.specs.First as First
 use Rattle.sectors.specs.declared.order.Pass.{Pass}
-use Rattle.fdc.specs.Examples.{command, readied}
-use Rattle.fdc.specs.Runs.{writes}
+use Rattle.reached.specs.Examples.{command, readied}
+use Rattle.reached.specs.Runs.{writes}
 use Rattle.answers.specs.Accepts.{Ready}
 use Rattle.answers.specs.CommandResults.{NoneBusy}
 use Rattle.answers.specs.OnlyWrites.{AllHanded}

@@ -29,8 +29,8 @@ use Rattle.sectors.specs.declared.order.Pass.{Pass}
 use Rattle.sectors.specs.declared.order.Pass.the-variants.{Read, Write}
 use Rattle.fdc.specs.declared.record.Controller.{Controller}
 use Rattle.fdc.specs.declared.record.Phase.the-variants.{Starting, Sensing, Answering}
-use Rattle.fdc.specs.Examples.{start, command, readied, bare}
-use Rattle.fdc.specs.Moves.{AllCalm, tickCount}
+use Rattle.reached.specs.Examples.{start, command, readied, bare}
+use Rattle.reached.specs.Moves.{AllCalm, tickCount}
 use Rattle.fdc.specs.Record.{driveAt}
 use Rattle.reached.specs.Runs.{Call, writes, gives, ticks, after}
 use Rattle.demands.specs.EndsInTime.{boundOf, Completes, byteNo}

@@ -13,7 +13,7 @@ use Rattle.drive.specs.declared.Motion.the-variants.{Seeking}
 use Rattle.drive.specs.Drive.{firstWait}
 use Rattle.fdc.specs.declared.record.Controller.{Controller}
 use Rattle.fdc.specs.Commands.{ticksOf}
-use Rattle.fdc.specs.Examples.{command, readied}
+use Rattle.reached.specs.Examples.{command, readied}
 use Rattle.fdc.specs.Record.{driveAt}
 use Rattle.reached.specs.Runs.{writes}
 use Rattle.answers.specs.Accepts.{Ready, Moves, Begun, Refuses, Configured, afterBytes}

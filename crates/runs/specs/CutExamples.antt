@@ -18,8 +18,8 @@ use Rattle.sectors.specs.declared.order.Pass.the-variants.{Write}
 use Rattle.sectors.specs.declared.order.Transfer.{Transfer}
 use Rattle.fdc.specs.declared.answer.Reply.{Reply}
 use Rattle.fdc.specs.declared.record.Controller.{Controller}
-use Rattle.fdc.specs.Examples.{start, command, readied}
-use Rattle.fdc.specs.Runs.{Call, writes, gives, ticks, answerTo, after, runCalls}
+use Rattle.reached.specs.Examples.{start, command, readied}
+use Rattle.reached.specs.Runs.{Call, writes, gives, ticks, answerTo, after, runCalls}
 use Rattle.fdc.specs.Ticks.{imageAfter}
 use Rattle.demands.specs.History.{no-one, some-of, History, fresh, taken, historyOf}
 use Rattle.demands.specs.PowerCut.{Writes}

@@ -15,9 +15,9 @@ use Rattle.sectors.specs.declared.order.Order.{Order}
 use Rattle.sectors.specs.declared.order.Pass.the-variants.{Read}
 use Rattle.sectors.specs.declared.order.Transfer.{Transfer}
 use Rattle.fdc.specs.declared.record.Controller.{Controller}
-use Rattle.fdc.specs.Examples.{start, command, readied}
-use Rattle.fdc.specs.Moves.{tickCount}
-use Rattle.fdc.specs.Runs.{Call, takes, ticks, after, runCalls}
+use Rattle.reached.specs.Examples.{start, command, readied}
+use Rattle.reached.specs.Moves.{tickCount}
+use Rattle.reached.specs.Runs.{Call, takes, ticks, after, runCalls}
 use Rattle.fdc.specs.Ticks.{imageAfter}
 use Rattle.runs.specs.CutExamples.{writer, written, sectorOne, ordered, cutCalls, full}
 use Rattle.demands.specs.DataError.{ReadsIt, Spins, DataErrorOrLate, DataErrorAt}

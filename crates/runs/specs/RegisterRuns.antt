@@ -6,7 +6,7 @@ use Prim.Native.Nat.{ℕ}
 use mathlib.Core.Bool.{true, false}
 use mathlib.Core.List.{List, [], _∷_, _++_}
 use mathlib.Core.Path.{_≡_}
-use Rattle.fdc.specs.Examples.{command, readied}
+use Rattle.reached.specs.Examples.{command, readied}
 use Rattle.fdc.specs.Record.{driveAt}
 use Rattle.fdc.specs.Registers.{intOf, drqOf}
 use Rattle.reached.specs.Runs.{Call, reads, writes, ticks, notes}

@@ -11,8 +11,8 @@ use Rattle.image.specs.Examples.{sample}
 use Rattle.engine.specs.Examples.{chr}
 use Rattle.fdc.specs.declared.record.Controller.{Controller}
 use Rattle.fdc.specs.Calls.{powerOn}
-use Rattle.fdc.specs.Examples.{command, readied}
-use Rattle.fdc.specs.Runs.{Call, takes, gives, ticks, after, runCalls}
+use Rattle.reached.specs.Examples.{command, readied}
+use Rattle.reached.specs.Runs.{Call, takes, gives, ticks, after, runCalls}
 use Rattle.answers.specs.Results.{Result, zeros}
 
 -- power-on with the head of drive 0 there, motor 0 on, Configure, the calls of a command, and what follows them
