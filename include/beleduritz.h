@@ -2,8 +2,8 @@
  *
  * The library, libcapi.a, keeps nothing: all of the controller's state, its record, lies in bytes that the caller
  * lends, and each call reads it there and writes it back. No call allocates, blocks, traps or keeps a pointer. Two
- * records are two boxes; one record is used by one thread at a time. A record may be copied and kept, by the same
- * version only.
+ * records are two boxes; one record is used by one thread at a time. A record may be copied and kept; its first byte
+ * is the layout's version, and one of another version is refused.
  *
  *     uint8_t record[BEL_RECORD_MAX];
  *     bel_power_on(record, sizeof record, 0, 0);
@@ -38,7 +38,9 @@ extern "C" {
 #define BEL_REFUSED_PORT 1   /* no such port: offset 0, 1, 6 or above 7 */
 #define BEL_REFUSED_TURN 2   /* FIFO while RQM is 0 or DIO has the other direction */
 #define BEL_REFUSED_LINE 3   /* DMA cycle while DRQ is off or of the other direction */
-#define BEL_REFUSED_RECORD 4 /* too few bytes, bytes that are no record (lines 0), or a record no call can leave */
+#define BEL_REFUSED_RECORD 4 /* too few bytes, bytes that are no record (lines 0), as those of another version or never
+                              * powered on, or a record with one of document 01's six faults; other records that no call
+                              * leaves are accepted */
 #define BEL_REFUSED_HEAD 5   /* power-on with a head above 81 */
 #define BEL_REFUSED_DRIVE 6  /* disk-change note for a drive above 1 */
 

@@ -114,6 +114,36 @@ static void write_sector(uint8_t r, const uint8_t *from) {
   CHECK(result[0] == 0 && result[1] == 0 && result[2] == 0);
 }
 
+/* Every call on bytes that are no record: 4 with both lines off, and nothing changes. */
+static void all_refused(uint8_t *r, size_t len) {
+  uint8_t before[BEL_RECORD_MAX], disk[IMAGE];
+  memcpy(before, r, len);
+  memcpy(disk, image, IMAGE);
+  CHECK(bel_read_port(r, len, 4) == 0x400);
+  CHECK(bel_write_port(r, len, 2, 0x1C) == 0x400);
+  CHECK(bel_dma_read(r, len, 0) == 0x400);
+  CHECK(bel_dma_write(r, len, 1, 0) == 0x400);
+  CHECK(bel_note_change(r, len, 0) == 0x400);
+  CHECK(bel_tick(r, len, image, sizeof image, none, 0) == 0x400);
+  CHECK(bel_ticks(r, len, image, sizeof image, none, 0, 9) == 0x400);
+  CHECK(memcmp(before, r, len) == 0 && memcmp(disk, image, IMAGE) == 0);
+}
+
+/* Memory that was never powered on, and a record of another version: the first byte is the layout's version. */
+static void no_record(void) {
+  uint8_t r[BEL_RECORD_MAX] = {0};
+  all_refused(r, sizeof r);
+  for (int version = 0; version < 256; version++) {
+    memcpy(r, record, sizeof r);
+    r[0] = (uint8_t)version;
+    if (r[0] == record[0])
+      CHECK(BEL_REFUSAL(bel_read_port(r, sizeof r, 4)) == 0);
+    else
+      all_refused(r, sizeof r);
+  }
+  CHECK(record[0] != 0);
+}
+
 static void refusals(void) {
   uint8_t before[BEL_RECORD_MAX];
   uint8_t short_record[BEL_RECORD_MAX];
@@ -127,6 +157,7 @@ static void refusals(void) {
   CHECK(bel_power_on(record, size - 1, 0, 0) == 0x400);
   CHECK(bel_ticks(record, size - 1, image, sizeof image, none, 0, 5) == 0x400);
   CHECK(memcmp(before, record, sizeof record) == 0);
+  no_record();
   memset(short_record, 0xFF, sizeof short_record);
   memcpy(before, short_record, sizeof before);
   CHECK(bel_read_port(short_record, sizeof short_record, 4) == 0x400);
@@ -165,6 +196,7 @@ static void damaged(void) {
   for (int i = 0; i < 200000; i++) {
     const int kind = i % 4;
     for (size_t k = 0; k < sizeof r; k++) r[k] = kind == 0 ? noise() : kind == 1 ? noise() & 1 : good[k];
+    if (kind < 2 && i % 32 > 1) r[0] = good[0]; /* most of them of this version, so that more than it is asked */
     if (kind == 2) r[noise() % size] = noise();
     memcpy(disk, image, IMAGE);
     memcpy(before, r, sizeof r);

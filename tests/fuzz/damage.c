@@ -12,6 +12,7 @@ static unsigned long tried, refused, short_tried;
 
 static void spoil(uint8_t *bytes, size_t size)
 {
+    uint8_t version = bytes[0];
     switch (below(4)) {
     case 0: /* random bytes */
         for (size_t i = 0; i < size; i++)
@@ -27,6 +28,8 @@ static void spoil(uint8_t *bytes, size_t size)
         memset(bytes + below((uint32_t)size / 2), chance(500) ? 0xFF : any_byte(), 1 + below((uint32_t)size / 2));
         break;
     }
+    if (chance(900)) /* another version is refused before anything else is asked */
+        bytes[0] = version;
 }
 
 /* the whole of bel_ticks' word: a refusal has made no tick */

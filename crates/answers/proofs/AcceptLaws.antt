@@ -316,7 +316,7 @@ moveOf unit cc hh rr nn eot pass deleted mt sk =
       drive = unit % 4;
       side = unit / 4 % 2;
       job =
-          Move (record { pass = pass; deleted = deleted; mt = mt; sk = sk; eot = eot })
+          Move (record { pass = pass; deleted = deleted; mt = mt; sk = sk; eot = eot; dtl = 0 })
           (record { c = cc; h = hh; r = rr; n = nn });
     }
 

@@ -9,6 +9,7 @@ use fdc::record::Controller;
 use many_ticks::run::ticks;
 use pack::cycle::reading;
 use pack::cycle::writing;
+use pack::places::RECORD_SIZE;
 use pack::put::store;
 use pack::put::store_fifo;
 use pack::take::is_record;
@@ -88,7 +89,7 @@ fn finish_cycle(s: &mut [u8], answer: Answer) -> u32
 pub extern "C" fn bel_record_size() -> u32
     ensures { λ r. ⌜ r ≡ recordSize ⌝ }
 {
-    124
+    RECORD_SIZE as u32
 }
 
 #[no_mangle]
@@ -98,7 +99,7 @@ pub extern "C" fn bel_power_on(s: &mut [u8], head0: u8, head1: u8) -> u32
     ensures back { λ _. ⌜ (recordSize ≤ length (now (s .entry))
         → Holds (now (s .exit)) (powerOn head0 head1 .controller)) ⌝ }
 {
-    let enough = 124 <= s.len();
+    let enough = RECORD_SIZE <= s.len();
     if enough {
         let answer = Controller::power_on(head0, head1);
         let controller = answer.controller;

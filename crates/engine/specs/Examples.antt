@@ -35,7 +35,7 @@ ordered job = record { drive = 0; side = 0; job = job }
 
 -- of a normal sector, EOT 9, without MT and SK
 abbrev pub moveOf : Pass → Id → Job
-moveOf pass id = Move (record { pass = pass; deleted = false; mt = false; sk = false; eot = 9 }) id
+moveOf pass id = Move (record { pass = pass; deleted = false; mt = false; sk = false; eot = 9; dtl = 0 }) id
 
 -- an end: ST0, ST1, ST2 and the address
 abbrev pub ended : ℕ → ℕ → ℕ → Id → Then

@@ -3,7 +3,7 @@
 use Prim.Native.Nat.{ℕ, zero, suc, _+_, _<_, _≤_}
 use native.Mathlib.Omega.{arith}
 use mathlib.Core.Bool.{false}
-use mathlib.Core.List.{List, [], _∷_}
+use mathlib.Core.List.{List, [], _∷_, _++_}
 use mathlib.Core.Path.{_≡_, refl, _∙_}
 use lib.Dec.{eqb, leb}
 use lib.ListN.{length, getD, set, drop}
@@ -25,9 +25,11 @@ use Rattle.demands.specs.Quiet.{AllBytes}
 use Rattle.pack.specs.declared.flat.Flat.{Flat}
 use Rattle.pack.specs.declared.flat.Spot.{Spot}
 use Rattle.pack.specs.Back.{Typed}
-use Rattle.pack.specs.Bytes.{recordSize, recordIn, isRecord, courseOf, motionOf, flatIn, fifoBytes, bytesOf}
-use Rattle.pack.specs.Bytes.{storedOf, fifoStored}
+use Rattle.pack.specs.Bytes.{wideOf, byteAt, recordSize, recordIn, isRecord, courseOf, motionOf, flatIn, fifoBytes}
+use Rattle.pack.specs.Bytes.{flowBytes, bytesOf, fifoPut, storedOf, fifoStored}
+use Rattle.pack.specs.Places.{driveRow, fifoRow, spotRow, waitAt, doneAt}
 use Rattle.pack.specs.Flat.{stageSpot, formSpot, jobFlat, workFlat, phaseFlat, stageOf, formOf, jobOf, workOf, phaseOf}
+use Rattle.pack.proofs.BackLaws.{version-refused, zeros-refused}
 use Rattle.capi.specs.Calls.{writtenOf, cycledOf, wordFrom, bytesFrom, cycleFrom, powerWord, imageFrom, longFrom}
 use Rattle.capi.specs.Calls.{firstFrom, secondFrom}
 use Rattle.capi.specs.Word.{noRecord}
@@ -44,6 +46,9 @@ bytes-at (x ∷ bytes) zero all = all .0
 bytes-at (x ∷ bytes) (suc k) all = bytes-at bytes k (all .1)
 
 -- the numbers of 16 bits that are read from bytes
+wide-brief : (bytes : List ℕ) (k : ℕ) → AllBytes bytes → wideOf (byteAt bytes k) (byteAt bytes (k + 1)) < 0x10000
+wide-brief bytes k all = omega (arith, bytes-at bytes k all, bytes-at bytes (k + 1) all)
+
 motion-brief : (tag target steps wait : ℕ) → wait < 0x10000 → courseOf (motionOf tag target steps wait) .wait < 0x10000
 unfolding motionOf
 motion-brief tag target steps wait h =
@@ -91,15 +96,15 @@ typed-bytes l all =
       drives =
           record {
             long = refl;
-            wait0 = motion-brief _ _ _ _ (omega (arith, bytes-at l 18 all, bytes-at l 19 all));
-            wait1 = motion-brief _ _ _ _ (omega (arith, bytes-at l 28 all, bytes-at l 29 all));
-            wait2 = motion-brief _ _ _ _ (omega (arith, bytes-at l 38 all, bytes-at l 39 all));
-            wait3 = motion-brief _ _ _ _ (omega (arith, bytes-at l 48 all, bytes-at l 49 all));
+            wait0 = motion-brief _ _ _ _ (wide-brief l (driveRow 0 + waitAt) all);
+            wait1 = motion-brief _ _ _ _ (wide-brief l (driveRow 1 + waitAt) all);
+            wait2 = motion-brief _ _ _ _ (wide-brief l (driveRow 2 + waitAt) all);
+            wait3 = motion-brief _ _ _ _ (wide-brief l (driveRow 3 + waitAt) all);
           };
       fifo = refl;
       command = refl;
       results = refl;
-      done = phase-done (flatIn l) (omega (arith, bytes-at l 122 all, bytes-at l 123 all));
+      done = phase-done (flatIn l) (wide-brief l (spotRow + doneAt) all);
     }
 
 -- what is lent after a call, part by part
@@ -140,10 +145,10 @@ drop-sets [] l i n h = refl
 drop-sets (v ∷ vs) l i n h = drop-sets vs (set l i v) (suc i) n (omega arith) ∙ drop-set-lt n l i v (omega arith)
 
 behind-fifo : (f : Fifo) (l : List ℕ) → Behind l (fifoStored f l)
-unfolding fifoStored
+unfolding fifoStored fifoPut
 behind-fifo f l =
-    by-test (leb recordSize (length l)) (Behind l) _ _ (λ _. drop-sets (fifoBytes f) l 50 recordSize (omega arith))
-    (λ _. refl)
+    by-test (leb recordSize (length l)) (Behind l) _ _
+    (λ _. drop-sets (fifoBytes f ++ flowBytes f) l fifoRow recordSize (omega arith)) (λ _. refl)
 
 behind-written : (answer : Answer) (l : List ℕ) → Behind l (bytesFrom l answer)
 unfolding bytesFrom writtenOf
@@ -193,5 +198,7 @@ any-bytes w =
       );
       short = too-few w;
       no-record = no-record w;
+      another-version = version-refused (w .bytes);
+      zeros = λ n e. rw e (zeros-refused n);
       behind = λ calls. behind-list calls w;
     }

@@ -15,6 +15,7 @@ use Rattle.sectors.specs.declared.order.Transfer.{Transfer}
 use Rattle.fdc.specs.declared.record.Controller.{Controller}
 use Rattle.fdc.specs.Calls.{powerOn}
 use Rattle.demands.specs.Work.{Its}
+use Rattle.pack.specs.Bytes.{recordSize}
 use Rattle.firmware.specs.Calls.{World, BelCall, power-on, write-port, dma-write, ticks, wordTo, worldLeft}
 use Rattle.firmware.specs.Made.{boxLeft, callsMade}
 use Rattle.firmware.specs.FromFirmware.{Stays, boxOf, Accepted, storesOn}
@@ -22,7 +23,7 @@ use Rattle.firmware.specs.Inside.{Stored}
 
 -- bytes for a record and no more, a disk of two sectors in drive 0, none in drive 1
 abbrev pub blank : World
-blank = record { bytes = replicate 124 0; first = sample 2; second = [] }
+blank = record { bytes = replicate recordSize 0; first = sample 2; second = [] }
 
 abbrev pub command : List ℕ → List BelCall
 command [] = []
@@ -43,7 +44,7 @@ writer =
     boxLeft asked (record { controller = powerOn 0 0 .controller; first = sample 2; second = [] }) .controller
 
 abbrev pub written : Transfer
-written = record { pass = Write; deleted = false; mt = false; sk = false; eot = 2 }
+written = record { pass = Write; deleted = false; mt = false; sk = false; eot = 2; dtl = 0 }
 
 abbrev pub sectorOne : Id
 sectorOne = record { c = 0; h = 0; r = 1; n = 1 }

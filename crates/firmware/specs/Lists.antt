@@ -7,13 +7,14 @@ use Prim.Native.Nat.{ℕ, _/_, _%_, _≤_, _<_}
 use mathlib.Core.Bool.{false}
 use mathlib.Core.List.{List}
 use mathlib.Core.Path.{_≡_}
-use lib.ListN.{length, drop}
+use lib.ListN.{length, drop, replicate}
 use Rattle.fdc.specs.Calls.{powerOn}
 use Rattle.fdc.specs.Record.{freshOf}
 use Rattle.reached.specs.Runs.{runCalls}
 use Rattle.demands.specs.Quiet.{AllBytes}
 use Rattle.pack.specs.Back.{Holds, Typed}
-use Rattle.pack.specs.Bytes.{recordSize, recordIn, isRecord}
+use Rattle.pack.specs.Bytes.{byteAt, recordSize, recordIn, isRecord}
+use Rattle.pack.specs.Places.{version, versionAt}
 use Rattle.capi.specs.Word.{noRecord}
 use Rattle.firmware.specs.Calls.{World, BelCall, power-on, read-port, write-port, dma-read, dma-write, tick}
 use Rattle.firmware.specs.Calls.{note-change, ticks, lends, wordTo, worldAfter, worldLeft}
@@ -63,6 +64,9 @@ pub record AnyBytes (w : World) : Type 0 where
       → (wordTo (power-on head0 head1) w ≡ noRecord) × (worldAfter (power-on head0 head1) w ≡ w)
   pub no-record : isRecord (w .bytes) ≡ false → (call : BelCall) → NeedsRecord call
       → (wordTo call w ≡ noRecord) × (worldAfter call w ≡ w)
+  -- such are those of another version, and all zeros, which memory that was never powered on may be
+  pub another-version : (byteAt (w .bytes) versionAt ≡ version → ⊥) → isRecord (w .bytes) ≡ false
+  pub zeros : (n : ℕ) → w .bytes ≡ replicate n 0 → isRecord (w .bytes) ≡ false
   -- those behind the record stay, over every list
   pub behind : (calls : List BelCall) → drop recordSize (worldLeft calls w .bytes) ≡ drop recordSize (w .bytes)
 

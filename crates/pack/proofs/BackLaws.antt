@@ -1,14 +1,14 @@
 -- Reading back what was written is the record (house).
 -- Assumes nothing.
 use Prim.Native.Nat.{ℕ, zero, suc, _+_, _≤_, _<_}
-use mathlib.Core.Bool.{Bool, true, false}
+use mathlib.Core.Bool.{Bool, true, false, _&&_, cond}
 use mathlib.Core.List.{List, [], _∷_, _++_}
 use mathlib.Core.Path.{_≡_, refl, ap, _∙_}
 use native.Mathlib.Omega.{arith}
 use lib.Dec.{eqb, leb}
 use lib.ListN.{length, getD, take, drop, replicate}
 use lib.Seq.{drop-cons, take-all}
-use borrow.Author.Tests.{le-leb}
+use borrow.Author.Tests.{le-leb, ne-eqb}
 use Rattle.chip.specs.declared.codes.Kind.{Kind}
 use Rattle.chip.specs.declared.codes.Kind.the-variants.{Unknown, ReadData, ReadDeleted, WriteData, WriteDeleted, ReadId}
 use Rattle.chip.specs.declared.codes.Kind.the-variants.{Format, Recalibrate, SenseInterrupt, Specify, SenseDrive, Seek}
@@ -20,18 +20,21 @@ use Rattle.drive.specs.declared.Motion.{Motion}
 use Rattle.drive.specs.declared.Motion.the-variants.{Still, Seeking, Recalibrating}
 use Rattle.sectors.specs.declared.order.Pass.{Pass}
 use Rattle.sectors.specs.declared.order.Pass.the-variants.{Read, Write}
+use Rattle.sectors.specs.declared.work.Task.{Task}
 use Rattle.fdc.specs.declared.record.Bytes.{Bytes}
 use Rattle.fdc.specs.declared.record.Controller.{Controller}
 use Rattle.fdc.specs.declared.record.Registers.{Registers}
 use Rattle.fdc.specs.Record.{driveAt, noDrive}
 use Rattle.pack.specs.declared.flat.Flat.{Flat}
+use Rattle.pack.specs.declared.flat.Spot.{Spot}
 use Rattle.pack.specs.Back.{Holds, Typed}
-use Rattle.pack.specs.Bytes.{bitOf, highOf, lowOf, wideOf, passNumber, passNumbered, registersBytes, registersIn}
-use Rattle.pack.specs.Bytes.{courseOf, motionOf, driveBytes, driveIn, fifoBytes, fifoIn}
-use Rattle.pack.specs.Bytes.{gatheredBytes, gatheredIn}
-use Rattle.pack.specs.Bytes.{flatBytes, flatIn, bytesOf, recordIn, recordSize, driveOk, frontOk, workOk, casesOk}
-use Rattle.pack.specs.Bytes.{isRecord}
+use Rattle.pack.specs.Bytes.{bitOf, highOf, lowOf, wideOf, passNumber, passNumbered, byteAt, registersBytes}
+use Rattle.pack.specs.Bytes.{registersIn, courseOf, motionOf, driveBytes, driveIn, fifoBytes, flowBytes, fifoIn}
+use Rattle.pack.specs.Bytes.{commandBytes, resultBytes, gatheredIn, headBytes, siteBytes, taskBytes, taskIn}
+use Rattle.pack.specs.Bytes.{spotBytes, spotIn, flatOf, bytesOf, recordIn, recordSize, registersOk, driveOk}
+use Rattle.pack.specs.Bytes.{flowOk, headOk, siteOk, taskOk, spotOk, drivesOk, flatOk, casesOk, isRecord}
 use Rattle.pack.specs.Flat.{phaseFlat, phaseOf}
+use Rattle.pack.specs.Places.{version, versionAt}
 use Rattle.pack.proofs.FlatLaws.{phase-back, FlatWithin, phase-within}
 
 flag-back : (flag : Bool) → eqb (bitOf flag) 1 ≡ flag
@@ -89,57 +92,69 @@ spelt-whole d l n e =
     let g : length l ≤ n = omega arith in
     spelt-part d l 0 n h ∙ take-all n l g
 
--- bytes from place k on
-abbrev pub behind : ℕ → List ℕ → List ℕ
-behind k l = replicate k 0 ++ l
-
 registers-back : (r : Registers) → registersIn (registersBytes r) ≡ r
 registers-back r = rw (flag-back (r .eis), flag-back (r .efifo), flag-back (r .poll))
 
-drive-back : (d : Drive) → courseOf (d .motion) .wait < 0x10000 → driveIn (driveBytes d) 0 ≡ d
+drive-back : (d : Drive) → courseOf (d .motion) .wait < 0x10000 → driveIn (driveBytes d) ≡ d
 drive-back d h =
     rw (flag-back (d .changed), flag-back (d .busy), wide-back (courseOf (d .motion) .wait) h, motion-back (d .motion))
 
-pub fifo-back : (f : Fifo) → length (f .bytes) ≡ 16 → fifoIn (behind 50 (fifoBytes f)) ≡ f
+pub fifo-back : (f : Fifo) → length (f .bytes) ≡ 16 → fifoIn (fifoBytes f) (flowBytes f) ≡ f
 fifo-back f h = rw (flag-back (f .asks), flag-back (f .tc), spelt-whole 0 (f .bytes) 16 h)
 
 gathered-back : (b : Bytes) → length (b .command) ≡ 9 → length (b .results) ≡ 7
-    → gatheredIn (behind 69 (gatheredBytes b)) ≡ b
+    → gatheredIn (commandBytes b) (resultBytes b) ≡ b
 gathered-back b h g = rw (spelt-whole 0 (b .command) 9 h, spelt-whole 0 (b .results) 7 g)
 
-flat-back : (f : Flat) → f .spot .done < 0x10000 → flatIn (behind 87 (flatBytes f)) ≡ f
+task-back : (t : Task) → taskIn (taskBytes t) ≡ t
+task-back t =
+    rw (
+      pass-back (t .transfer .pass),
+      flag-back (t .transfer .deleted),
+      flag-back (t .transfer .mt),
+      flag-back (t .transfer .sk),
+      flag-back (t .other),
+    )
+
+spot-back : (s : Spot) → s .done < 0x10000 → spotIn (spotBytes s) ≡ s
+spot-back s h =
+    rw (
+      flag-back (s .met),
+      flag-back (s .wrong),
+      flag-back (s .bad),
+      flag-back (s .broken),
+      flag-back (s .other),
+      wide-back (s .done) h,
+    )
+
+-- a phase's rows, read
+abbrev flatBack : Flat → Flat
+flatBack f = flatOf (headBytes f) (siteBytes (f .site) (f .plan)) (taskBytes (f .task)) (spotBytes (f .spot))
+
+flat-back : (f : Flat) → f .spot .done < 0x10000 → flatBack f ≡ f
 flat-back f h =
     rw (
       kind-back (f .entry .kind),
       flag-back (f .loud),
       flag-back (f .site .disk .protect),
-      pass-back (f .task .transfer .pass),
-      flag-back (f .task .transfer .deleted),
-      flag-back (f .task .transfer .mt),
-      flag-back (f .task .transfer .sk),
-      flag-back (f .task .other),
-      flag-back (f .spot .met),
-      flag-back (f .spot .wrong),
-      flag-back (f .spot .bad),
-      flag-back (f .spot .broken),
-      flag-back (f .spot .other),
-      wide-back (f .spot .done) h,
+      task-back (f .task),
+      spot-back (f .spot) h,
     )
 
--- each part is read where it was written
+-- each row is read where it was written
 parts : (c : Controller) (rest : List ℕ)
     → recordIn (bytesOf c ++ rest)
     ≡ record {
       registers = registersIn (registersBytes (c .registers));
       drives =
-          driveIn (driveBytes (driveAt 0 (c .drives))) 0
-          ∷ driveIn (driveBytes (driveAt 1 (c .drives))) 0
-          ∷ driveIn (driveBytes (driveAt 2 (c .drives))) 0
-          ∷ driveIn (driveBytes (driveAt 3 (c .drives))) 0
+          driveIn (driveBytes (driveAt 0 (c .drives)))
+          ∷ driveIn (driveBytes (driveAt 1 (c .drives)))
+          ∷ driveIn (driveBytes (driveAt 2 (c .drives)))
+          ∷ driveIn (driveBytes (driveAt 3 (c .drives)))
           ∷ [];
-      fifo = fifoIn (behind 50 (fifoBytes (c .fifo)));
-      bytes = gatheredIn (behind 69 (gatheredBytes (c .bytes)));
-      phase = phaseOf (flatIn (behind 87 (flatBytes (phaseFlat (c .phase)))));
+      fifo = fifoIn (fifoBytes (c .fifo)) (flowBytes (c .fifo));
+      bytes = gatheredIn (commandBytes (c .bytes)) (resultBytes (c .bytes));
+      phase = phaseOf (flatBack (phaseFlat (c .phase)));
     }
 unfolding recordIn bytesOf
 parts c rest = refl
@@ -194,24 +209,80 @@ unfolding bytesOf
 long c rest = omega arith
 
 -- what is written has its flags and cases in range
+registers-ok : (r : Registers) → registersOk (registersBytes r) ≡ true
+unfolding registersOk
+registers-ok r = rw (flag-within (r .eis), flag-within (r .efifo), flag-within (r .poll))
+
+drive-ok : (d : Drive) → driveOk (driveBytes d) ≡ true
+unfolding driveOk
+drive-ok d = rw (flag-within (d .changed), flag-within (d .busy), course-within (d .motion))
+
+pub flow-ok : (f : Fifo) → flowOk (flowBytes f) ≡ true
+unfolding flowOk
+flow-ok f = rw (flag-within (f .asks), flag-within (f .tc))
+
+-- a phase's rows
+abbrev flatGood : Flat → Bool
+flatGood f =
+    headOk (headBytes f) && siteOk (siteBytes (f .site) (f .plan)) && taskOk (taskBytes (f .task))
+    && spotOk (spotBytes (f .spot))
+
+flat-ok : (f : Flat) → FlatWithin f → flatGood f ≡ true
+unfolding headOk siteOk taskOk spotOk
+flat-ok f w =
+    simp (flag-within, pass-within, kind-within, w .tag, w .work, w .stage, w .form)
+
+ok-parts : (c : Controller) (rest : List ℕ)
+    → casesOk (bytesOf c ++ rest)
+    ≡ registersOk (registersBytes (c .registers))
+    && (driveOk (driveBytes (driveAt 0 (c .drives))) && driveOk (driveBytes (driveAt 1 (c .drives)))
+    && driveOk (driveBytes (driveAt 2 (c .drives))) && driveOk (driveBytes (driveAt 3 (c .drives))))
+    && flowOk (flowBytes (c .fifo)) && flatGood (phaseFlat (c .phase))
+unfolding casesOk drivesOk flatOk bytesOf
+ok-parts c rest = refl
+
 pub cases-ok : (c : Controller) (rest : List ℕ) → casesOk (bytesOf c ++ rest) ≡ true
-unfolding casesOk frontOk driveOk workOk bytesOf
 cases-ok c rest =
-    let f : FlatWithin (phaseFlat (c .phase)) = phase-within (c .phase) in
-    simp (
-      flag-within,
-      pass-within,
-      kind-within,
-      course-within,
-      f .tag,
-      f .work,
-      f .stage,
-      f .form,
+    ok-parts c rest
+    ∙ rw (
+      registers-ok (c .registers),
+      drive-ok (driveAt 0 (c .drives)),
+      drive-ok (driveAt 1 (c .drives)),
+      drive-ok (driveAt 2 (c .drives)),
+      drive-ok (driveAt 3 (c .drives)),
+      flow-ok (c .fifo),
+      flat-ok (phaseFlat (c .phase)) (phase-within (c .phase)),
     )
+
+version-first : (c : Controller) (rest : List ℕ) → byteAt (bytesOf c ++ rest) versionAt ≡ version
+unfolding bytesOf
+version-first c rest = refl
 
 pub is-record : (c : Controller) (rest : List ℕ) → isRecord (bytesOf c ++ rest) ≡ true
 unfolding isRecord
-is-record c rest = rw (le-leb recordSize (length (bytesOf c ++ rest)) (long c rest), cases-ok c rest)
+is-record c rest =
+    rw (
+      le-leb recordSize (length (bytesOf c ++ rest)) (long c rest),
+      version-first c rest,
+      cases-ok c rest,
+    )
 
 pub holds : (c : Controller) (rest : List ℕ) → Typed c → Holds (bytesOf c ++ rest) c
 holds c rest t = record { good = is-record c rest; back = read-back c rest t }
+
+-- house: another version's bytes are no record
+pub version-refused : (l : List ℕ) → (byteAt l versionAt ≡ version → ⊥) → isRecord l ≡ false
+unfolding isRecord
+version-refused l h = rw (ne-eqb (byteAt l versionAt) version h) (same-both (leb recordSize (length l)))
+  where
+    same-both : (t : Bool) → cond t false false ≡ false
+    same-both true = refl
+    same-both false = refl
+
+-- house: nor is memory that was never powered on, however much it is
+zeros-first : (n : ℕ) → byteAt (replicate n 0) versionAt ≡ 0
+zeros-first zero = refl
+zeros-first (suc n) = refl
+
+pub zeros-refused : (n : ℕ) → isRecord (replicate n 0) ≡ false
+zeros-refused n = version-refused (replicate n 0) (λ e. omega (arith, zeros-first n, e))

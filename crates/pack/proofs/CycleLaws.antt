@@ -28,11 +28,16 @@ use Rattle.fdc.specs.Record.{withFifo, validOf}
 use Rattle.fdc.specs.Registers.{gateIn, dmaIn, pendingIn, flowAsks, intOf, drqOf}
 use Rattle.pack.specs.declared.flat.Spot.{Spot}
 use Rattle.pack.specs.Back.{Holds}
-use Rattle.pack.specs.Bytes.{byteAt, flagAt, within, passNumbered, motionOf, fifoBytes, fifoIn, siteIn, taskIn}
-use Rattle.pack.specs.Bytes.{spotIn, flatIn, recordSize, recordIn, driveOk, frontOk, workOk, casesOk, isRecord}
+use Rattle.pack.specs.Bytes.{byteAt, flagAt, rowAt, within, passNumbered, motionOf, fifoBytes, flowBytes, fifoIn}
+use Rattle.pack.specs.Bytes.{siteIn, taskIn, spotIn, flatIn, recordSize, fifoPut, recordIn, drivesOk, flowOk}
+use Rattle.pack.specs.Bytes.{flatOk, casesOk, isRecord}
 use Rattle.pack.specs.Flat.{stageOf, workOf, phaseOf}
-use Rattle.pack.specs.Cycle.{askedIn, boundedIn, stillIn, cyclesIn, readingIn, writingIn}
-use Rattle.pack.proofs.BackLaws.{spelt, spelt-part, behind, fifo-back, flag-within}
+use Rattle.pack.specs.Places.{version, registersRow, driveRow, flowRow, commandRow, resultRow, phaseRow, siteRow}
+use Rattle.pack.specs.Places.{taskRow, spotRow, versionAt, dorAt, spec2At, efifoAt, fifothrAt, headAt, motionAt}
+use Rattle.pack.specs.Places.{countAt, asksAt, gatheredAt, leftAt, tagAt, workAt, passAt, spotCountAt}
+use Rattle.pack.specs.Cycle.{askedIn, fifoBounded, countsBounded, boundedIn, stillIn, drivesStill, cyclesIn}
+use Rattle.pack.specs.Cycle.{readingIn, writingIn}
+use Rattle.pack.proofs.BackLaws.{spelt, spelt-part, fifo-back, flow-ok}
 use Rattle.pack.proofs.PutLaws.{record-long}
 
 -- what is written at place k: before it and behind it what stood there, the next n bytes written out
@@ -48,16 +53,17 @@ put-between vs l k n h =
       take-append-drop n (drop (k + length vs) l),
     ) (sets-eq vs l k fits)
 
--- a record's bytes with the FIFO's anew
+-- a record's bytes with the FIFO's rows anew
 abbrev between : Fifo → List ℕ → List ℕ
-between f l = spelt 0 l 0 50 ++ fifoBytes f ++ (spelt 0 l 69 55 ++ drop recordSize l)
+between f l = spelt 0 l 0 0x50 ++ (fifoBytes f ++ flowBytes f) ++ (spelt 0 l 0x70 0x60 ++ drop recordSize l)
 
-fifo-between : (f : Fifo) (l : List ℕ) → recordSize ≤ length l → sets l 50 (fifoBytes f) ≡ between f l
-fifo-between f l h = put-between (fifoBytes f) l 50 55 h
+fifo-between : (f : Fifo) (l : List ℕ) → recordSize ≤ length l → fifoPut f l ≡ between f l
+unfolding fifoPut
+fifo-between f l h = put-between (fifoBytes f ++ flowBytes f) l 0x50 0x60 h
 
 -- every other part is read as before
 other-parts : (f : Fifo) (l : List ℕ)
-    → recordIn (between f l) ≡ withFifo (fifoIn (behind 50 (fifoBytes f))) (recordIn l)
+    → recordIn (between f l) ≡ withFifo (fifoIn (fifoBytes f) (flowBytes f)) (recordIn l)
 unfolding recordIn withFifo
 other-parts f l = refl
 
@@ -67,71 +73,73 @@ told true f = refl
 told false f = f refl
 
 cases-kept : (f : Fifo) (l : List ℕ) → casesOk l ≡ true → casesOk (between f l) ≡ true
-unfolding casesOk frontOk driveOk workOk
+unfolding casesOk drivesOk flatOk
 cases-kept f l h =
-    let asks : within l 67 1 ≡ true = told (within l 67 1) (λ e. simp (e, and-false) at h) in
-    let tc : within l 68 1 ≡ true = told (within l 68 1) (λ e. simp (e, and-false) at h) in
-    rw (flag-within (f .asks), flag-within (f .tc)) (rw (asks, tc) at h)
+    let flow : flowOk (rowAt l flowRow) ≡ true = told (flowOk (rowAt l flowRow)) (λ e. simp (e, and-false) at h) in
+    rw (flow-ok f) (rw flow at h)
 
 between-long : (f : Fifo) (l : List ℕ) → recordSize ≤ length (between f l)
 between-long f l = omega arith
 
 -- the record with that FIFO
 pub holds-fifo : (f : Fifo) (l : List ℕ) → length (f .bytes) ≡ 16 → isRecord l ≡ true
-    → Holds (sets l 50 (fifoBytes f)) (withFifo f (recordIn l))
+    → Holds (fifoPut f l) (withFifo f (recordIn l))
 unfolding isRecord
 holds-fifo f l sixteen h =
     let long : recordSize ≤ length l = record-long l h in
-    let cases : casesOk l ≡ true = rw (le-leb recordSize (length l) long) at h in
+    let e = both (eqb (byteAt l versionAt) version) (casesOk l) (rw (le-leb recordSize (length l) long) at h) in
     rw (fifo-between f l long)
     (record {
-      good = rw (le-leb recordSize (length (between f l)) (between-long f l)) (cases-kept f l cases);
+      good =
+          rw (le-leb recordSize (length (between f l)) (between-long f l), e .0) (cases-kept f l (e .1));
       back = rw (fifo-back f sixteen) at (other-parts f l);
     })
 
 -- what the tests say of the bytes
 record Cycles (l : List ℕ) : Type 0 where
-  gate : gateIn (byteAt l 0) ≡ true
-  dma : dmaIn (byteAt l 4) ≡ true
-  asks : flagAt l 67 ≡ true
-  phase : byteAt l 87 ≡ 3
-  work : byteAt l 92 ≡ 1
-  count : leb (byteAt l 66) (capacityOf (flagAt l 6)) ≡ true
-  gathered : within l 78 9 ≡ true
-  left : within l 86 7 ≡ true
-  fifothr : within l 8 15 ≡ true
-  wait : within l 116 64 ≡ true
-  head0 : within l 10 81 ≡ true
-  head1 : within l 20 81 ≡ true
-  head2 : within l 30 81 ≡ true
-  head3 : within l 40 81 ≡ true
-  still0 : eqb (byteAt l 15) 0 ≡ true
-  still1 : eqb (byteAt l 25) 0 ≡ true
-  still2 : eqb (byteAt l 35) 0 ≡ true
-  still3 : eqb (byteAt l 45) 0 ≡ true
+  gate : gateIn (byteAt (rowAt l registersRow) dorAt) ≡ true
+  dma : dmaIn (byteAt (rowAt l registersRow) spec2At) ≡ true
+  asks : flagAt (rowAt l flowRow) asksAt ≡ true
+  phase : byteAt (rowAt l phaseRow) tagAt ≡ 3
+  work : byteAt (rowAt l phaseRow) workAt ≡ 1
+  count : leb (byteAt (rowAt l flowRow) countAt) (capacityOf (flagAt (rowAt l registersRow) efifoAt)) ≡ true
+  gathered : within (rowAt l commandRow) gatheredAt 9 ≡ true
+  left : within (rowAt l resultRow) leftAt 7 ≡ true
+  fifothr : within (rowAt l registersRow) fifothrAt 15 ≡ true
+  wait : within (rowAt l spotRow) spotCountAt 64 ≡ true
+  head0 : within (rowAt l (driveRow 0)) headAt 81 ≡ true
+  head1 : within (rowAt l (driveRow 1)) headAt 81 ≡ true
+  head2 : within (rowAt l (driveRow 2)) headAt 81 ≡ true
+  head3 : within (rowAt l (driveRow 3)) headAt 81 ≡ true
+  still0 : eqb (byteAt (rowAt l (driveRow 0)) motionAt) 0 ≡ true
+  still1 : eqb (byteAt (rowAt l (driveRow 1)) motionAt) 0 ≡ true
+  still2 : eqb (byteAt (rowAt l (driveRow 2)) motionAt) 0 ≡ true
+  still3 : eqb (byteAt (rowAt l (driveRow 3)) motionAt) 0 ≡ true
 
 cycles-told : (l : List ℕ) → cyclesIn l ≡ true → Cycles l
-unfolding cyclesIn askedIn boundedIn stillIn
+unfolding cyclesIn askedIn fifoBounded countsBounded boundedIn stillIn drivesStill
 cycles-told l h =
     record {
-      gate = told (gateIn (byteAt l 0)) (λ e. rw e at h);
-      dma = told (dmaIn (byteAt l 4)) (λ e. simp (e, and-false) at h);
-      asks = told (flagAt l 67) (λ e. simp (e, and-false) at h);
-      phase = eqb-true _ _ (told (eqb (byteAt l 87) 3) (λ e. simp (e, and-false) at h));
-      work = eqb-true _ _ (told (eqb (byteAt l 92) 1) (λ e. simp (e, and-false) at h));
-      count = told (leb (byteAt l 66) (capacityOf (flagAt l 6))) (λ e. simp (e, and-false) at h);
-      gathered = told (within l 78 9) (λ e. simp (e, and-false) at h);
-      left = told (within l 86 7) (λ e. simp (e, and-false) at h);
-      fifothr = told (within l 8 15) (λ e. simp (e, and-false) at h);
-      wait = told (within l 116 64) (λ e. simp (e, and-false) at h);
-      head0 = told (within l 10 81) (λ e. simp (e, and-false) at h);
-      head1 = told (within l 20 81) (λ e. simp (e, and-false) at h);
-      head2 = told (within l 30 81) (λ e. simp (e, and-false) at h);
-      head3 = told (within l 40 81) (λ e. simp (e, and-false) at h);
-      still0 = told (eqb (byteAt l 15) 0) (λ e. simp (e, and-false) at h);
-      still1 = told (eqb (byteAt l 25) 0) (λ e. simp (e, and-false) at h);
-      still2 = told (eqb (byteAt l 35) 0) (λ e. simp (e, and-false) at h);
-      still3 = told (eqb (byteAt l 45) 0) (λ e. simp (e, and-false) at h);
+      gate = told (gateIn (byteAt (rowAt l registersRow) dorAt)) (λ e. rw e at h);
+      dma = told (dmaIn (byteAt (rowAt l registersRow) spec2At)) (λ e. simp (e, and-false) at h);
+      asks = told (flagAt (rowAt l flowRow) asksAt) (λ e. simp (e, and-false) at h);
+      phase = eqb-true _ _ (told (eqb (byteAt (rowAt l phaseRow) tagAt) 3) (λ e. simp (e, and-false) at h));
+      work = eqb-true _ _ (told (eqb (byteAt (rowAt l phaseRow) workAt) 1) (λ e. simp (e, and-false) at h));
+      count =
+          told (leb (byteAt (rowAt l flowRow) countAt) (capacityOf (flagAt (rowAt l registersRow) efifoAt)))
+          (λ e. simp (e, and-false) at h);
+      gathered = told (within (rowAt l commandRow) gatheredAt 9) (λ e. simp (e, and-false) at h);
+      left = told (within (rowAt l resultRow) leftAt 7) (λ e. simp (e, and-false) at h);
+      fifothr = told (within (rowAt l registersRow) fifothrAt 15) (λ e. simp (e, and-false) at h);
+      wait = told (within (rowAt l spotRow) spotCountAt 64) (λ e. simp (e, and-false) at h);
+      head0 = told (within (rowAt l (driveRow 0)) headAt 81) (λ e. simp (e, and-false) at h);
+      head1 = told (within (rowAt l (driveRow 1)) headAt 81) (λ e. simp (e, and-false) at h);
+      head2 = told (within (rowAt l (driveRow 2)) headAt 81) (λ e. simp (e, and-false) at h);
+      head3 = told (within (rowAt l (driveRow 3)) headAt 81) (λ e. simp (e, and-false) at h);
+      still0 = told (eqb (byteAt (rowAt l (driveRow 0)) motionAt) 0) (λ e. simp (e, and-false) at h);
+      still1 = told (eqb (byteAt (rowAt l (driveRow 1)) motionAt) 0) (λ e. simp (e, and-false) at h);
+      still2 = told (eqb (byteAt (rowAt l (driveRow 2)) motionAt) 0) (λ e. simp (e, and-false) at h);
+      still3 = told (eqb (byteAt (rowAt l (driveRow 3)) motionAt) 0) (λ e. simp (e, and-false) at h);
     }
 
 -- a count within the bound of a wait, whatever it counts
@@ -146,7 +154,9 @@ wait-within spot h =
     (λ _. by-test (eqb (spot .stage) 4) P _ _ (λ _. h) (λ _. refl)))))
 
 phase-moving : (l : List ℕ) → Cycles l
-    → phaseOf (flatIn l) ≡ Working (Moving (siteIn l) (taskIn l) (stageOf (spotIn l)))
+    → phaseOf (flatIn l)
+    ≡ Working
+    (Moving (siteIn (rowAt l siteRow)) (taskIn (rowAt l taskRow)) (stageOf (spotIn (rowAt l spotRow))))
 unfolding phaseOf workOf
 phase-moving l k = rw (k .phase, k .work)
 
@@ -164,7 +174,7 @@ cycle-valid l k =
       k .head2,
       k .head3,
       k .fifothr,
-      wait-within (spotIn l) (k .wait),
+      wait-within (spotIn (rowAt l spotRow)) (k .wait),
       k .still0,
       k .still1,
       k .still2,
@@ -187,24 +197,25 @@ pub cycle-drq : (f : Fifo) (l : List ℕ) → cyclesIn l ≡ true → drqOf (wit
 unfolding drqOf withFifo recordIn
 cycle-drq f l h =
     let k : Cycles l = cycles-told l h in
-    rw (k .gate, k .dma, phase-moving l k, pass-asks (taskIn l .transfer .pass) (f .asks))
+    rw (k .gate, k .dma, phase-moving l k, pass-asks (taskIn (rowAt l taskRow) .transfer .pass) (f .asks))
 
-pass-told : (n : ℕ) (l : List ℕ) → cond (leb recordSize (length l)) (cyclesIn l && eqb (byteAt l 100) n) false ≡ true
-    → (cyclesIn l ≡ true) × (byteAt l 100 ≡ n)
+pass-told : (n : ℕ) (l : List ℕ)
+    → cond (leb recordSize (length l)) (cyclesIn l && eqb (byteAt (rowAt l taskRow) passAt) n) false ≡ true
+    → (cyclesIn l ≡ true) × (byteAt (rowAt l taskRow) passAt ≡ n)
 pass-told n l h = go (leb recordSize (length l)) h
   where
-    go : (t : Bool) → cond t (cyclesIn l && eqb (byteAt l 100) n) false ≡ true
-        → (cyclesIn l ≡ true) × (byteAt l 100 ≡ n)
+    go : (t : Bool) → cond t (cyclesIn l && eqb (byteAt (rowAt l taskRow) passAt) n) false ≡ true
+        → (cyclesIn l ≡ true) × (byteAt (rowAt l taskRow) passAt ≡ n)
     go true g =
-        let e = both (cyclesIn l) (eqb (byteAt l 100) n) g in
-        (e .0, eqb-true (byteAt l 100) n (e .1))
+        let e = both (cyclesIn l) (eqb (byteAt (rowAt l taskRow) passAt) n) g in
+        (e .0, eqb-true (byteAt (rowAt l taskRow) passAt) n (e .1))
     go false g = absurd (false≢true g)
 
-pub reading-told : (l : List ℕ) → readingIn l ≡ true → (cyclesIn l ≡ true) × (byteAt l 100 ≡ 0)
+pub reading-told : (l : List ℕ) → readingIn l ≡ true → (cyclesIn l ≡ true) × (byteAt (rowAt l taskRow) passAt ≡ 0)
 unfolding readingIn
 reading-told l h = pass-told 0 l h
 
-pub writing-told : (l : List ℕ) → writingIn l ≡ true → (cyclesIn l ≡ true) × (byteAt l 100 ≡ 1)
+pub writing-told : (l : List ℕ) → writingIn l ≡ true → (cyclesIn l ≡ true) × (byteAt (rowAt l taskRow) passAt ≡ 1)
 unfolding writingIn
 writing-told l h = pass-told 1 l h
 

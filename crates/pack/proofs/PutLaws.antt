@@ -3,7 +3,7 @@
 use Prim.Native.Nat.{ℕ, suc, _+_, _≤_}
 use mathlib.Core.Bool.{Bool, true, false, false≢true}
 use mathlib.Core.List.{List, [], _∷_, _++_}
-use mathlib.Core.Path.{_≡_, refl}
+use mathlib.Core.Path.{_≡_, refl, _∙_}
 use lib.Dec.{leb}
 use borrow.Author.Tests.{leb-true, le-leb}
 use native.Mathlib.Omega.{arith}
@@ -11,37 +11,32 @@ use lib.ListN.{length, drop, set}
 use lib.Seq.{sets, sets-eq}
 use Rattle.fdc.specs.declared.record.Controller.{Controller}
 use Rattle.pack.specs.Flat.{phaseFlat}
-use Rattle.pack.specs.Bytes.{recordSize, registersBytes, fifoBytes, gatheredBytes, drivesPut, flatPut}
-use Rattle.pack.specs.Bytes.{bytesOf, isRecord, recordIn, loadedOf}
+use Rattle.pack.specs.Bytes.{recordSize, registersBytes, drivesPut, fifoPut, gatheredPut, flatPut, bytesOf}
+use Rattle.pack.specs.Bytes.{isRecord, recordIn, loadedOf}
+use Rattle.pack.specs.Places.{registersRow}
 
--- ten stores, from a place on
-pub ten-put : (l : List ℕ) (at b0 b1 b2 b3 b4 b5 b6 b7 b8 b9 : ℕ)
-    → set
-    (set
-    (set (set (set (set (set (set (set (set l at b0) (at + 1) b1) (at + 2) b2) (at + 3) b3) (at + 4) b4) (at + 5) b5)
-    (at + 6) b6)
-    (at + 7) b7)
-    (at + 8) b8)
-    (at + 9) b9
-    ≡ sets l at (b0 ∷ b1 ∷ b2 ∷ b3 ∷ b4 ∷ b5 ∷ b6 ∷ b7 ∷ b8 ∷ b9 ∷ [])
-ten-put l at b0 b1 b2 b3 b4 b5 b6 b7 b8 b9 =
-    let e1 : at + 1 ≡ suc at = omega arith in
-    let e2 : at + 2 ≡ suc (suc at) = omega arith in
-    let e3 : at + 3 ≡ suc (suc (suc at)) = omega arith in
-    let e4 : at + 4 ≡ suc (suc (suc (suc at))) = omega arith in
-    let e5 : at + 5 ≡ suc (suc (suc (suc (suc at)))) = omega arith in
-    let e6 : at + 6 ≡ suc (suc (suc (suc (suc (suc at))))) = omega arith in
-    let e7 : at + 7 ≡ suc (suc (suc (suc (suc (suc (suc at)))))) = omega arith in
-    let e8 : at + 8 ≡ suc (suc (suc (suc (suc (suc (suc (suc at))))))) = omega arith in
-    let e9 : at + 9 ≡ suc (suc (suc (suc (suc (suc (suc (suc (suc at)))))))) = omega arith in
-    rw (e1, e2, e3, e4, e5, e6, e7, e8, e9)
+-- stores one after another, their places counted from one place on
+abbrev pub puts : List ℕ → ℕ → ℕ → List ℕ → List ℕ
+puts l at k [] = l
+puts l at k (b ∷ vs) = puts (set l (at + k) b) at (suc k) vs
+
+puts-sets : (vs l : List ℕ) (at k : ℕ) → puts l at k vs ≡ sets l (at + k) vs
+puts-sets [] l at k = refl
+puts-sets (b ∷ vs) l at k =
+    let e : at + suc k ≡ suc (at + k) = omega arith in
+    puts-sets vs (set l (at + k) b) at (suc k) ∙ rw e
+
+pub row-put : (l : List ℕ) (at b : ℕ) (vs : List ℕ) → puts (set l at b) at 1 vs ≡ sets l at (b ∷ vs)
+row-put l at b vs =
+    let e : at + 1 ≡ suc at = omega arith in
+    puts-sets vs (set l at b) at 1 ∙ rw e
 
 pub record-put : (c : Controller) (l : List ℕ) → recordSize ≤ length l
     → flatPut (phaseFlat (c .phase))
-    (sets (sets (drivesPut (c .drives) (sets l 0 (registersBytes (c .registers)))) 50 (fifoBytes (c .fifo))) 69
-    (gatheredBytes (c .bytes)))
+    (gatheredPut (c .bytes)
+    (fifoPut (c .fifo) (drivesPut (c .drives) (sets l registersRow (registersBytes (c .registers))))))
     ≡ bytesOf c ++ drop recordSize l
-unfolding drivesPut flatPut bytesOf
+unfolding drivesPut fifoPut gatheredPut flatPut bytesOf
 record-put c l h = sets-eq (bytesOf c) l 0 h
 
 -- bytes that are a record are enough

@@ -1,5 +1,5 @@
--- The record as bytes (house): each field has a place of its own, a number of 16 bits its high byte first, a flag is
--- 0 or 1, a case its number, and what a case does not carry is 0. A phase's fields are Flat.
+-- The record as bytes (house): each field has a place of its own in a row of sixteen (Places), a number of 16 bits its
+-- high byte first, a flag is 0 or 1, a case its number, and what a case does not carry is 0. A phase's fields are Flat.
 -- Assumes nothing.
 use Prim.Native.Nat.{ℕ, _+_, _*_, _/_, _%_}
 use mathlib.Core.Bool.{Bool, false, _&&_, cond}
@@ -25,6 +25,15 @@ use Rattle.pack.specs.declared.drives.Course.{Course}
 use Rattle.pack.specs.declared.flat.Flat.{Flat}
 use Rattle.pack.specs.declared.flat.Spot.{Spot}
 use Rattle.pack.specs.Flat.{phaseFlat, phaseOf}
+use Rattle.pack.specs.Places.{version, registersRow, driveRow, fifoRow, flowRow, commandRow, resultRow}
+use Rattle.pack.specs.Places.{phaseRow, siteRow, taskRow, spotRow, versionAt, dorAt, tdrAt, rateAt, spec1At}
+use Rattle.pack.specs.Places.{spec2At, eisAt, efifoAt, pollAt, fifothrAt, pretrkAt, headAt, pcnAt, changedAt}
+use Rattle.pack.specs.Places.{busyAt, reportAt, motionAt, targetAt, stepsAt, waitAt, countAt, asksAt, tcAt}
+use Rattle.pack.specs.Places.{gatheredAt, leftAt, tagAt, kindAt, dueAt, unitAt, loudAt, workAt, driveNumberAt}
+use Rattle.pack.specs.Places.{sideAt, cylindersAt, headsAt, slotsAt, diskSizeAt, protectAt, planSizeAt, scAt}
+use Rattle.pack.specs.Places.{fillAt, passAt, deletedAt, mtAt, skAt, eotAt, dtlAt, cAt, hAt, rAt, nAt}
+use Rattle.pack.specs.Places.{taskOtherAt, stageAt, formAt, slotAt, spotCountAt, metAt, wrongAt, badAt}
+use Rattle.pack.specs.Places.{brokenAt, otherAt, doneAt}
 
 abbrev pub bitOf : Bool → ℕ
 bitOf flag = cond flag 1 0
@@ -52,25 +61,32 @@ byteAt l k = getD l k 0
 abbrev pub flagAt : List ℕ → ℕ → Bool
 flagAt l k = eqb (getD l k 0) 1
 
--- 0 to 9: the registers
+-- sixteen bytes from a place on
+abbrev pub rowAt : List ℕ → ℕ → List ℕ
+rowAt l at =
+    byteAt l at ∷ byteAt l (at + 1) ∷ byteAt l (at + 2) ∷ byteAt l (at + 3) ∷ byteAt l (at + 4) ∷ byteAt l (at + 5)
+    ∷ byteAt l (at + 6) ∷ byteAt l (at + 7) ∷ byteAt l (at + 8) ∷ byteAt l (at + 9) ∷ byteAt l (at + 10)
+    ∷ byteAt l (at + 11) ∷ byteAt l (at + 12) ∷ byteAt l (at + 13) ∷ byteAt l (at + 14) ∷ byteAt l (at + 15) ∷ []
+
+-- the version and the registers
 abbrev pub registersBytes : Registers → List ℕ
 registersBytes r =
-    r .dor ∷ r .tdr ∷ r .rate ∷ r .spec1 ∷ r .spec2 ∷ bitOf (r .eis) ∷ bitOf (r .efifo) ∷ bitOf (r .poll)
-    ∷ r .fifothr ∷ r .pretrk ∷ []
+    version ∷ r .dor ∷ r .tdr ∷ r .rate ∷ r .spec1 ∷ r .spec2 ∷ bitOf (r .eis) ∷ bitOf (r .efifo)
+    ∷ bitOf (r .poll) ∷ r .fifothr ∷ r .pretrk ∷ 0 ∷ 0 ∷ 0 ∷ 0 ∷ 0 ∷ []
 
 abbrev pub registersIn : List ℕ → Registers
-registersIn l =
+registersIn row =
     record {
-      dor = byteAt l 0;
-      tdr = byteAt l 1;
-      rate = byteAt l 2;
-      spec1 = byteAt l 3;
-      spec2 = byteAt l 4;
-      eis = flagAt l 5;
-      efifo = flagAt l 6;
-      poll = flagAt l 7;
-      fifothr = byteAt l 8;
-      pretrk = byteAt l 9;
+      dor = byteAt row dorAt;
+      tdr = byteAt row tdrAt;
+      rate = byteAt row rateAt;
+      spec1 = byteAt row spec1At;
+      spec2 = byteAt row spec2At;
+      eis = flagAt row eisAt;
+      efifo = flagAt row efifoAt;
+      poll = flagAt row pollAt;
+      fifothr = byteAt row fifothrAt;
+      pretrk = byteAt row pretrkAt;
     }
 
 -- house: the motions by number
@@ -83,227 +99,265 @@ unfoldable pub motionOf : ℕ → ℕ → ℕ → ℕ → Motion
 motionOf tag target steps wait =
     cond (eqb tag 0) Still (cond (eqb tag 1) (Seeking target steps wait) (Recalibrating steps wait))
 
+-- a motion's five bytes, and the room behind them
 abbrev pub motionBytes : Course → List ℕ
-motionBytes course = course .tag ∷ course .target ∷ course .steps ∷ highOf (course .wait) ∷ lowOf (course .wait) ∷ []
+motionBytes course =
+    course .tag ∷ course .target ∷ course .steps ∷ highOf (course .wait) ∷ lowOf (course .wait)
+    ∷ 0 ∷ 0 ∷ 0 ∷ 0 ∷ 0 ∷ 0 ∷ []
 
--- 10, 20, 30, 40: the drives
+-- a drive
 abbrev pub driveBytes : Drive → List ℕ
 driveBytes d =
     d .head ∷ d .pcn ∷ bitOf (d .changed) ∷ bitOf (d .busy) ∷ d .report ∷ motionBytes (courseOf (d .motion))
 
-abbrev pub driveIn : List ℕ → ℕ → Drive
-driveIn l at =
+abbrev pub driveIn : List ℕ → Drive
+driveIn row =
     record {
-      head = byteAt l at;
-      pcn = byteAt l (at + 1);
-      changed = flagAt l (at + 2);
-      busy = flagAt l (at + 3);
-      report = byteAt l (at + 4);
+      head = byteAt row headAt;
+      pcn = byteAt row pcnAt;
+      changed = flagAt row changedAt;
+      busy = flagAt row busyAt;
+      report = byteAt row reportAt;
       motion =
-          motionOf (byteAt l (at + 5)) (byteAt l (at + 6)) (byteAt l (at + 7))
-          (wideOf (byteAt l (at + 8)) (byteAt l (at + 9)));
+          motionOf (byteAt row motionAt) (byteAt row targetAt) (byteAt row stepsAt)
+          (wideOf (byteAt row waitAt) (byteAt row (waitAt + 1)));
     }
 
--- 50 to 68: the FIFO
+-- the FIFO's bytes, and what stands beside them
 abbrev pub fifoBytes : Fifo → List ℕ
-fifoBytes f =
-    byteAt (f .bytes) 0 ∷ byteAt (f .bytes) 1 ∷ byteAt (f .bytes) 2 ∷ byteAt (f .bytes) 3 ∷ byteAt (f .bytes) 4
-    ∷ byteAt (f .bytes) 5 ∷ byteAt (f .bytes) 6 ∷ byteAt (f .bytes) 7 ∷ byteAt (f .bytes) 8 ∷ byteAt (f .bytes) 9
-    ∷ byteAt (f .bytes) 10 ∷ byteAt (f .bytes) 11 ∷ byteAt (f .bytes) 12 ∷ byteAt (f .bytes) 13
-    ∷ byteAt (f .bytes) 14 ∷ byteAt (f .bytes) 15 ∷ f .count ∷ bitOf (f .asks) ∷ bitOf (f .tc) ∷ []
+fifoBytes f = rowAt (f .bytes) 0
 
-abbrev pub fifoIn : List ℕ → Fifo
-fifoIn l =
-    record {
-      bytes =
-          byteAt l 50 ∷ byteAt l 51 ∷ byteAt l 52 ∷ byteAt l 53 ∷ byteAt l 54 ∷ byteAt l 55 ∷ byteAt l 56
-          ∷ byteAt l 57 ∷ byteAt l 58 ∷ byteAt l 59 ∷ byteAt l 60 ∷ byteAt l 61 ∷ byteAt l 62 ∷ byteAt l 63
-          ∷ byteAt l 64 ∷ byteAt l 65 ∷ [];
-      count = byteAt l 66;
-      asks = flagAt l 67;
-      tc = flagAt l 68;
-    }
+abbrev pub flowBytes : Fifo → List ℕ
+flowBytes f =
+    f .count ∷ bitOf (f .asks) ∷ bitOf (f .tc) ∷ 0 ∷ 0 ∷ 0 ∷ 0 ∷ 0 ∷ 0 ∷ 0 ∷ 0 ∷ 0 ∷ 0 ∷ 0 ∷ 0 ∷ 0 ∷ []
 
--- 69 to 86: command and result bytes
-abbrev pub gatheredBytes : Bytes → List ℕ
-gatheredBytes b =
+abbrev pub fifoIn : List ℕ → List ℕ → Fifo
+fifoIn row flow =
+    record { bytes = row; count = byteAt flow countAt; asks = flagAt flow asksAt; tc = flagAt flow tcAt }
+
+-- command bytes, and result bytes
+abbrev pub commandBytes : Bytes → List ℕ
+commandBytes b =
     byteAt (b .command) 0 ∷ byteAt (b .command) 1 ∷ byteAt (b .command) 2 ∷ byteAt (b .command) 3
     ∷ byteAt (b .command) 4 ∷ byteAt (b .command) 5 ∷ byteAt (b .command) 6 ∷ byteAt (b .command) 7
-    ∷ byteAt (b .command) 8 ∷ b .gathered ∷ byteAt (b .results) 0 ∷ byteAt (b .results) 1 ∷ byteAt (b .results) 2
-    ∷ byteAt (b .results) 3 ∷ byteAt (b .results) 4 ∷ byteAt (b .results) 5 ∷ byteAt (b .results) 6 ∷ b .left ∷ []
+    ∷ byteAt (b .command) 8 ∷ 0 ∷ 0 ∷ 0 ∷ 0 ∷ 0 ∷ 0 ∷ b .gathered ∷ []
 
-abbrev pub gatheredIn : List ℕ → Bytes
-gatheredIn l =
+abbrev pub resultBytes : Bytes → List ℕ
+resultBytes b =
+    byteAt (b .results) 0 ∷ byteAt (b .results) 1 ∷ byteAt (b .results) 2 ∷ byteAt (b .results) 3
+    ∷ byteAt (b .results) 4 ∷ byteAt (b .results) 5 ∷ byteAt (b .results) 6 ∷ 0 ∷ 0 ∷ 0 ∷ 0 ∷ 0 ∷ 0 ∷ 0 ∷ 0
+    ∷ b .left ∷ []
+
+abbrev pub gatheredIn : List ℕ → List ℕ → Bytes
+gatheredIn command results =
     record {
       command =
-          byteAt l 69 ∷ byteAt l 70 ∷ byteAt l 71 ∷ byteAt l 72 ∷ byteAt l 73 ∷ byteAt l 74 ∷ byteAt l 75
-          ∷ byteAt l 76 ∷ byteAt l 77 ∷ [];
-      gathered = byteAt l 78;
+          byteAt command 0 ∷ byteAt command 1 ∷ byteAt command 2 ∷ byteAt command 3 ∷ byteAt command 4
+          ∷ byteAt command 5 ∷ byteAt command 6 ∷ byteAt command 7 ∷ byteAt command 8 ∷ [];
+      gathered = byteAt command gatheredAt;
       results =
-          byteAt l 79 ∷ byteAt l 80 ∷ byteAt l 81 ∷ byteAt l 82 ∷ byteAt l 83 ∷ byteAt l 84 ∷ byteAt l 85 ∷ [];
-      left = byteAt l 86;
+          byteAt results 0 ∷ byteAt results 1 ∷ byteAt results 2 ∷ byteAt results 3 ∷ byteAt results 4
+          ∷ byteAt results 5 ∷ byteAt results 6 ∷ [];
+      left = byteAt results leftAt;
     }
 
--- 87 to 92: the phase's number, Gathering, Sensing and Answering, and the number of the job or work
+-- the phase
 abbrev pub headBytes : Flat → List ℕ
 headBytes f =
-    f .tag ∷ kindNumber (f .entry .kind) ∷ f .entry .bytes ∷ f .unit ∷ bitOf (f .loud) ∷ f .work ∷ []
+    f .tag ∷ kindNumber (f .entry .kind) ∷ f .entry .bytes ∷ f .unit ∷ bitOf (f .loud) ∷ f .work
+    ∷ 0 ∷ 0 ∷ 0 ∷ 0 ∷ 0 ∷ 0 ∷ 0 ∷ 0 ∷ 0 ∷ 0 ∷ []
 
--- 93 to 99: where a command works
-abbrev pub siteBytes : Site → List ℕ
-siteBytes s =
+-- where a command works, and a Format's plan
+abbrev pub siteBytes : Site → Plan → List ℕ
+siteBytes s p =
     s .drive ∷ s .side ∷ s .disk .cylinders ∷ s .disk .heads ∷ s .disk .slots ∷ s .disk .n
-    ∷ bitOf (s .disk .protect) ∷ []
+    ∷ bitOf (s .disk .protect) ∷ 0 ∷ p .n ∷ p .sc ∷ p .fill ∷ 0 ∷ 0 ∷ 0 ∷ 0 ∷ 0 ∷ []
 
 abbrev pub siteIn : List ℕ → Site
-siteIn l =
+siteIn row =
     record {
-      drive = byteAt l 93;
-      side = byteAt l 94;
+      drive = byteAt row driveNumberAt;
+      side = byteAt row sideAt;
       disk =
           record {
-            cylinders = byteAt l 95;
-            heads = byteAt l 96;
-            slots = byteAt l 97;
-            n = byteAt l 98;
-            protect = flagAt l 99;
+            cylinders = byteAt row cylindersAt;
+            heads = byteAt row headsAt;
+            slots = byteAt row slotsAt;
+            n = byteAt row diskSizeAt;
+            protect = flagAt row protectAt;
           };
     }
 
--- 100 to 109: a transfer with the sector in hand
+abbrev pub planIn : List ℕ → Plan
+planIn row = record { n = byteAt row planSizeAt; sc = byteAt row scAt; fill = byteAt row fillAt }
+
+-- a transfer with the sector in hand
 abbrev pub taskBytes : Task → List ℕ
 taskBytes t =
     passNumber (t .transfer .pass) ∷ bitOf (t .transfer .deleted) ∷ bitOf (t .transfer .mt)
-    ∷ bitOf (t .transfer .sk) ∷ t .transfer .eot ∷ t .id .c ∷ t .id .h ∷ t .id .r ∷ t .id .n ∷ bitOf (t .other) ∷ []
+    ∷ bitOf (t .transfer .sk) ∷ t .transfer .eot ∷ t .transfer .dtl ∷ 0 ∷ 0 ∷ t .id .c ∷ t .id .h ∷ t .id .r ∷ t .id .n
+    ∷ bitOf (t .other) ∷ 0 ∷ 0 ∷ 0 ∷ []
 
 abbrev pub taskIn : List ℕ → Task
-taskIn l =
+taskIn row =
     record {
       transfer =
           record {
-            pass = passNumbered (byteAt l 100);
-            deleted = flagAt l 101;
-            mt = flagAt l 102;
-            sk = flagAt l 103;
-            eot = byteAt l 104;
+            pass = passNumbered (byteAt row passAt);
+            deleted = flagAt row deletedAt;
+            mt = flagAt row mtAt;
+            sk = flagAt row skAt;
+            eot = byteAt row eotAt;
+            dtl = byteAt row dtlAt;
           };
-      id = record { c = byteAt l 105; h = byteAt l 106; r = byteAt l 107; n = byteAt l 108 };
-      other = flagAt l 109;
+      id = record { c = byteAt row cAt; h = byteAt row hAt; r = byteAt row rAt; n = byteAt row nAt };
+      other = flagAt row taskOtherAt;
     }
 
--- 110 to 112: a Format
-abbrev pub planBytes : Plan → List ℕ
-planBytes p = p .n ∷ p .sc ∷ p .fill ∷ []
-
-abbrev pub planIn : List ℕ → Plan
-planIn l = record { n = byteAt l 110; sc = byteAt l 111; fill = byteAt l 112 }
-
--- 113 to 123: a stage
+-- a stage
 abbrev pub spotBytes : Spot → List ℕ
 spotBytes s =
     s .stage ∷ s .form ∷ s .slot ∷ s .count ∷ bitOf (s .met) ∷ bitOf (s .wrong) ∷ bitOf (s .bad)
-    ∷ bitOf (s .broken) ∷ bitOf (s .other) ∷ highOf (s .done) ∷ lowOf (s .done) ∷ []
+    ∷ bitOf (s .broken) ∷ bitOf (s .other) ∷ 0 ∷ highOf (s .done) ∷ lowOf (s .done) ∷ 0 ∷ 0 ∷ 0 ∷ 0 ∷ []
 
 abbrev pub spotIn : List ℕ → Spot
-spotIn l =
+spotIn row =
     record {
-      stage = byteAt l 113;
-      form = byteAt l 114;
-      slot = byteAt l 115;
-      count = byteAt l 116;
-      met = flagAt l 117;
-      wrong = flagAt l 118;
-      bad = flagAt l 119;
-      broken = flagAt l 120;
-      other = flagAt l 121;
-      done = wideOf (byteAt l 122) (byteAt l 123);
+      stage = byteAt row stageAt;
+      form = byteAt row formAt;
+      slot = byteAt row slotAt;
+      count = byteAt row spotCountAt;
+      met = flagAt row metAt;
+      wrong = flagAt row wrongAt;
+      bad = flagAt row badAt;
+      broken = flagAt row brokenAt;
+      other = flagAt row otherAt;
+      done = wideOf (byteAt row doneAt) (byteAt row (doneAt + 1));
     }
 
-abbrev pub flatBytes : Flat → List ℕ
-flatBytes f = headBytes f ++ siteBytes (f .site) ++ taskBytes (f .task) ++ planBytes (f .plan) ++ spotBytes (f .spot)
+-- the rows of a phase
+abbrev pub flatOf : List ℕ → List ℕ → List ℕ → List ℕ → Flat
+flatOf head site task spot =
+    record {
+      tag = byteAt head tagAt;
+      entry = record { kind = kindNumbered (byteAt head kindAt); bytes = byteAt head dueAt };
+      unit = byteAt head unitAt;
+      loud = flagAt head loudAt;
+      work = byteAt head workAt;
+      site = siteIn site;
+      task = taskIn task;
+      plan = planIn site;
+      spot = spotIn spot;
+    }
 
 abbrev pub flatIn : List ℕ → Flat
-flatIn l =
-    record {
-      tag = byteAt l 87;
-      entry = record { kind = kindNumbered (byteAt l 88); bytes = byteAt l 89 };
-      unit = byteAt l 90;
-      loud = flagAt l 91;
-      work = byteAt l 92;
-      site = siteIn l;
-      task = taskIn l;
-      plan = planIn l;
-      spot = spotIn l;
-    }
+flatIn l = flatOf (rowAt l phaseRow) (rowAt l siteRow) (rowAt l taskRow) (rowAt l spotRow)
 
--- the whole record
+-- the whole record: thirteen rows
 abbrev pub recordSize : ℕ
-recordSize = 124
+recordSize = 0xD0
+
+abbrev pub drivesBytes : List Drive → List ℕ
+drivesBytes drives =
+    driveBytes (driveAt 0 drives) ++ driveBytes (driveAt 1 drives) ++ driveBytes (driveAt 2 drives)
+    ++ driveBytes (driveAt 3 drives)
+
+abbrev pub flatBytes : Flat → List ℕ
+flatBytes f = headBytes f ++ siteBytes (f .site) (f .plan) ++ taskBytes (f .task) ++ spotBytes (f .spot)
 
 unfoldable pub bytesOf : Controller → List ℕ
 bytesOf c =
-    registersBytes (c .registers) ++ driveBytes (driveAt 0 (c .drives)) ++ driveBytes (driveAt 1 (c .drives))
-    ++ driveBytes (driveAt 2 (c .drives)) ++ driveBytes (driveAt 3 (c .drives)) ++ fifoBytes (c .fifo)
-    ++ gatheredBytes (c .bytes) ++ flatBytes (phaseFlat (c .phase))
+    registersBytes (c .registers) ++ drivesBytes (c .drives) ++ (fifoBytes (c .fifo) ++ flowBytes (c .fifo))
+    ++ (commandBytes (c .bytes) ++ resultBytes (c .bytes)) ++ flatBytes (phaseFlat (c .phase))
 
--- the drives, and a phase, written to their places
+-- the drives, the FIFO, the bytes of a command, and a phase, written to their rows
 unfoldable pub drivesPut : List Drive → List ℕ → List ℕ
 drivesPut drives l =
     sets
     (sets
-    (sets (sets l 10 (driveBytes (driveAt 0 drives))) 20 (driveBytes (driveAt 1 drives)))
-    30 (driveBytes (driveAt 2 drives)))
-    40 (driveBytes (driveAt 3 drives))
+    (sets (sets l (driveRow 0) (driveBytes (driveAt 0 drives))) (driveRow 1) (driveBytes (driveAt 1 drives)))
+    (driveRow 2) (driveBytes (driveAt 2 drives)))
+    (driveRow 3) (driveBytes (driveAt 3 drives))
+
+unfoldable pub fifoPut : Fifo → List ℕ → List ℕ
+fifoPut f l = sets (sets l fifoRow (fifoBytes f)) flowRow (flowBytes f)
+
+unfoldable pub gatheredPut : Bytes → List ℕ → List ℕ
+gatheredPut b l = sets (sets l commandRow (commandBytes b)) resultRow (resultBytes b)
 
 unfoldable pub flatPut : Flat → List ℕ → List ℕ
 flatPut f l =
     sets
-    (sets (sets (sets (sets l 87 (headBytes f)) 93 (siteBytes (f .site))) 100 (taskBytes (f .task))) 110
-    (planBytes (f .plan)))
-    113 (spotBytes (f .spot))
+    (sets (sets (sets l phaseRow (headBytes f)) siteRow (siteBytes (f .site) (f .plan))) taskRow (taskBytes (f .task)))
+    spotRow (spotBytes (f .spot))
+
+abbrev pub drivesIn : List ℕ → List Drive
+drivesIn l =
+    driveIn (rowAt l (driveRow 0)) ∷ driveIn (rowAt l (driveRow 1)) ∷ driveIn (rowAt l (driveRow 2))
+    ∷ driveIn (rowAt l (driveRow 3)) ∷ []
 
 unfoldable pub recordIn : List ℕ → Controller
 recordIn l =
     record {
-      registers = registersIn l;
-      drives = driveIn l 10 ∷ driveIn l 20 ∷ driveIn l 30 ∷ driveIn l 40 ∷ [];
-      fifo = fifoIn l;
-      bytes = gatheredIn l;
+      registers = registersIn (rowAt l registersRow);
+      drives = drivesIn l;
+      fifo = fifoIn (rowAt l fifoRow) (rowAt l flowRow);
+      bytes = gatheredIn (rowAt l commandRow) (rowAt l resultRow);
       phase = phaseOf (flatIn l);
     }
 
--- house: bytes are a record where they are enough, each flag is 0 or 1, and each case's number is one of its cases';
--- the places that the case at hand does not use are not looked at
+-- house: bytes are a record where they are enough, the first is this layout's version, each flag is 0 or 1, and each
+-- case's number is one of its cases'; room, and the places that the case at hand does not use, are not looked at
 abbrev pub within : List ℕ → ℕ → ℕ → Bool
 within l k n = leb (byteAt l k) n
 
-unfoldable pub driveOk : List ℕ → ℕ → Bool
-driveOk l at = within l (at + 2) 1 && within l (at + 3) 1 && within l (at + 5) 2
+unfoldable pub registersOk : List ℕ → Bool
+registersOk row = within row eisAt 1 && within row efifoAt 1 && within row pollAt 1
 
-unfoldable pub frontOk : List ℕ → Bool
-frontOk l =
-    within l 5 1 && within l 6 1 && within l 7 1 && within l 67 1 && within l 68 1 && within l 87 5 && within l 88 13
-    && within l 91 1 && within l 92 2
+unfoldable pub driveOk : List ℕ → Bool
+driveOk row = within row changedAt 1 && within row busyAt 1 && within row motionAt 2
 
-unfoldable pub workOk : List ℕ → Bool
-workOk l =
-    within l 99 1 && within l 100 1 && within l 101 1 && within l 102 1 && within l 103 1 && within l 109 1
-    && within l 113 5 && within l 114 3 && within l 117 1 && within l 118 1 && within l 119 1 && within l 120 1
-    && within l 121 1
+unfoldable pub flowOk : List ℕ → Bool
+flowOk row = within row asksAt 1 && within row tcAt 1
+
+unfoldable pub headOk : List ℕ → Bool
+headOk row = within row tagAt 5 && within row kindAt 13 && within row loudAt 1 && within row workAt 2
+
+unfoldable pub siteOk : List ℕ → Bool
+siteOk row = within row protectAt 1
+
+unfoldable pub taskOk : List ℕ → Bool
+taskOk row =
+    within row passAt 1 && within row deletedAt 1 && within row mtAt 1 && within row skAt 1
+    && within row taskOtherAt 1
+
+unfoldable pub spotOk : List ℕ → Bool
+spotOk row =
+    within row stageAt 5 && within row formAt 3 && within row metAt 1 && within row wrongAt 1 && within row badAt 1
+    && within row brokenAt 1 && within row otherAt 1
+
+unfoldable pub drivesOk : List ℕ → Bool
+drivesOk l =
+    driveOk (rowAt l (driveRow 0)) && driveOk (rowAt l (driveRow 1)) && driveOk (rowAt l (driveRow 2))
+    && driveOk (rowAt l (driveRow 3))
+
+unfoldable pub flatOk : List ℕ → Bool
+flatOk l =
+    headOk (rowAt l phaseRow) && siteOk (rowAt l siteRow) && taskOk (rowAt l taskRow) && spotOk (rowAt l spotRow)
 
 unfoldable pub casesOk : List ℕ → Bool
-casesOk l = frontOk l && driveOk l 10 && driveOk l 20 && driveOk l 30 && driveOk l 40 && workOk l
+casesOk l = registersOk (rowAt l registersRow) && drivesOk l && flowOk (rowAt l flowRow) && flatOk l
 
 unfoldable pub isRecord : List ℕ → Bool
-isRecord l = cond (leb recordSize (length l)) (casesOk l) false
+isRecord l = cond (leb recordSize (length l)) (eqb (byteAt l versionAt) version && casesOk l) false
 
 -- the record written to the bytes lent: those behind it stay, and too few stay as they are
 unfoldable pub storedOf : Controller → List ℕ → List ℕ
 storedOf c l = cond (leb recordSize (length l)) (bytesOf c ++ drop recordSize l) l
 
--- the FIFO alone written to its places
+-- the FIFO alone written to its rows
 unfoldable pub fifoStored : Fifo → List ℕ → List ℕ
-fifoStored f l = cond (leb recordSize (length l)) (sets l 50 (fifoBytes f)) l
+fifoStored f l = cond (leb recordSize (length l)) (fifoPut f l) l
 
 -- the record in enough bytes; in too few, one as after power-on
 unfoldable pub loadedOf : List ℕ → Controller

@@ -32,7 +32,7 @@ abbrev pub noId : Id
 noId = record { c = 0; h = 0; r = 0; n = 0 }
 
 abbrev pub noTransfer : Transfer
-noTransfer = record { pass = Read; deleted = false; mt = false; sk = false; eot = 0 }
+noTransfer = record { pass = Read; deleted = false; mt = false; sk = false; eot = 0; dtl = 0 }
 
 abbrev pub taskOf : Transfer → Id → Task
 taskOf transfer id = record { transfer = transfer; id = id; other = false }

@@ -2,7 +2,6 @@
 use chip::codes::Kind;
 use sectors::order::Pass;
 ghost use mathlib.Core.Path.{_≡_};
-ghost use mathlib.Core.Bool.{cond};
 ghost use Prim.Native.Nat.{_+_, _*_, _/_, _%_};
 ghost use Rattle.chip.specs.Commands.{kindNumber, kindNumbered};
 ghost use Rattle.pack.specs.Bytes.{bitOf, highOf, lowOf, wideOf, passNumber, passNumbered};

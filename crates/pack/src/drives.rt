@@ -1,14 +1,21 @@
-// A drive's ten bytes in the record.
+// A drive's row in the record.
 use crate::bytes::bit;
 use crate::bytes::high;
 use crate::bytes::low;
 use crate::bytes::wide;
+use crate::places::BUSY_AT;
+use crate::places::CHANGED_AT;
+use crate::places::HEAD_AT;
+use crate::places::MOTION_AT;
+use crate::places::PCN_AT;
+use crate::places::REPORT_AT;
+use crate::places::STEPS_AT;
+use crate::places::TARGET_AT;
+use crate::places::WAIT_AT;
 use drive::Drive;
 use drive::Motion;
 ghost use mathlib.Core.Path.{_≡_};
-ghost use Prim.Native.Nat.{_+_, _≤_, _<_};
-ghost use lib.ListN.{length};
-ghost use lib.Seq.{sets};
+ghost use Prim.Native.Nat.{_<_};
 ghost use Rattle.pack.specs.Bytes.{courseOf, motionOf, driveBytes, driveIn};
 
 // A motion with the fields of its cases side by side.
@@ -62,9 +69,8 @@ fn motion_of(tag: u8, target: u8, steps: u8, wait: u16) -> Motion
     }
 }
 
-pub fn put_drive(s: &mut [u8], at: usize, d: Drive)
-    requires { ⌜ at + 10 ≤ length (now s) ⌝ }
-    ensures stored { λ _. ⌜ now (s .exit) ≡ sets (now (s .entry)) at (driveBytes d) ⌝ }
+pub fn drive_row(d: Drive) -> [u8; 16]
+    ensures bytes { λ r. ⌜ r ≡ driveBytes d ⌝ }
     ensures fits { λ _. ⌜ courseOf (d .motion) .wait < 0x10000 ⌝ }
 {
     let motion = d.motion;
@@ -73,30 +79,37 @@ pub fn put_drive(s: &mut [u8], at: usize, d: Drive)
     let busy = bit(d.busy);
     let h = high(course.wait);
     let l = low(course.wait);
-    s[at] = d.head;
-    s[at + 1] = d.pcn;
-    s[at + 2] = changed;
-    s[at + 3] = busy;
-    s[at + 4] = d.report;
-    s[at + 5] = course.tag;
-    s[at + 6] = course.target;
-    s[at + 7] = course.steps;
-    s[at + 8] = h;
-    s[at + 9] = l;
+    [
+        d.head,
+        d.pcn,
+        changed,
+        busy,
+        d.report,
+        course.tag,
+        course.target,
+        course.steps,
+        h,
+        l,
+        0,
+        0,
+        0,
+        0,
+        0,
+        0,
+    ]
 }
 
-pub fn drive_in(s: &[u8], at: usize) -> Drive
-    requires { ⌜ at + 10 ≤ length (now s) ⌝ }
-    ensures { λ r. ⌜ r ≡ driveIn (now (s .entry)) at ⌝ }
+pub fn drive_in(row: [u8; 16]) -> Drive
+    ensures { λ r. ⌜ r ≡ driveIn row ⌝ }
 {
-    let wait = wide(s[at + 8], s[at + 9]);
-    let motion = motion_of(s[at + 5], s[at + 6], s[at + 7], wait);
+    let wait = wide(row[WAIT_AT], row[WAIT_AT + 1]);
+    let motion = motion_of(row[MOTION_AT], row[TARGET_AT], row[STEPS_AT], wait);
     Drive {
-        head: s[at],
-        pcn: s[at + 1],
-        changed: s[at + 2] == 1,
-        busy: s[at + 3] == 1,
-        report: s[at + 4],
+        head: row[HEAD_AT],
+        pcn: row[PCN_AT],
+        changed: row[CHANGED_AT] == 1,
+        busy: row[BUSY_AT] == 1,
+        report: row[REPORT_AT],
         motion,
     }
 }

@@ -100,6 +100,7 @@ fn no_task() -> Task
         mt: false,
         sk: false,
         eot: 0,
+        dtl: 0,
     };
     let id = Id {
         c: 0,

@@ -3,5 +3,7 @@ mod bytes;
 pub mod cycle;
 mod drives;
 mod flat;
+pub mod places;
 pub mod put;
+mod rows;
 pub mod take;

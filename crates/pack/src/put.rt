@@ -4,10 +4,26 @@ use crate::bytes::high;
 use crate::bytes::kind_number;
 use crate::bytes::low;
 use crate::bytes::pass_number;
-use crate::drives::put_drive;
+use crate::drives::drive_row;
 use crate::flat::Flat;
 use crate::flat::Spot;
 use crate::flat::phase_flat;
+use crate::places::COMMAND_ROW;
+use crate::places::DRIVE0_ROW;
+use crate::places::DRIVE1_ROW;
+use crate::places::DRIVE2_ROW;
+use crate::places::DRIVE3_ROW;
+use crate::places::FIFO_ROW;
+use crate::places::FLOW_ROW;
+use crate::places::PHASE_ROW;
+use crate::places::RECORD_SIZE;
+use crate::places::REGISTERS_ROW;
+use crate::places::RESULT_ROW;
+use crate::places::SITE_ROW;
+use crate::places::SPOT_ROW;
+use crate::places::TASK_ROW;
+use crate::places::VERSION;
+use crate::rows::put_row;
 use chip::fifo::Fifo;
 use drive::Drive;
 use fdc::record::Bytes;
@@ -18,22 +34,23 @@ use sectors::work::Site;
 use sectors::work::Task;
 ghost use mathlib.Core.Bool.{true};
 ghost use mathlib.Core.Path.{_≡_};
-ghost use Prim.Native.Nat.{_+_, _≤_, _<_};
+ghost use Prim.Native.Nat.{_≤_, _<_};
 ghost use mathlib.Core.List.{_++_};
 ghost use lib.ListN.{length, drop};
-ghost use lib.Seq.{sets};
 ghost use Rattle.fdc.specs.Record.{withFifo};
 ghost use Rattle.pack.specs.Bytes.{
   recordSize,
   registersBytes,
-  fifoBytes,
-  gatheredBytes,
+  flowBytes,
+  commandBytes,
+  resultBytes,
   headBytes,
   siteBytes,
   taskBytes,
-  planBytes,
   spotBytes,
   drivesPut,
+  fifoPut,
+  gatheredPut,
   flatPut,
   bytesOf,
   storedOf,
@@ -43,23 +60,30 @@ ghost use Rattle.pack.specs.Bytes.{
 };
 ghost use Rattle.pack.specs.Back.{DrivesFit, Typed, Holds};
 
-fn put_registers(s: &mut [u8], r: Registers)
-    requires { ⌜ recordSize ≤ length (now s) ⌝ }
-    ensures { λ _. ⌜ now (s .exit) ≡ sets (now (s .entry)) 0 (registersBytes r) ⌝ }
+fn registers_row(r: Registers) -> [u8; 16]
+    ensures { λ row. ⌜ row ≡ registersBytes r ⌝ }
 {
     let eis = bit(r.eis);
     let efifo = bit(r.efifo);
     let poll = bit(r.poll);
-    s[0] = r.dor;
-    s[1] = r.tdr;
-    s[2] = r.rate;
-    s[3] = r.spec1;
-    s[4] = r.spec2;
-    s[5] = eis;
-    s[6] = efifo;
-    s[7] = poll;
-    s[8] = r.fifothr;
-    s[9] = r.pretrk;
+    [
+        VERSION,
+        r.dor,
+        r.tdr,
+        r.rate,
+        r.spec1,
+        r.spec2,
+        eis,
+        efifo,
+        poll,
+        r.fifothr,
+        r.pretrk,
+        0,
+        0,
+        0,
+        0,
+        0,
+    ]
 }
 
 fn put_drives(s: &mut [u8], drives: [Drive; 4])
@@ -71,102 +95,150 @@ fn put_drives(s: &mut [u8], drives: [Drive; 4])
     let b = drives[1];
     let c = drives[2];
     let d = drives[3];
-    put_drive(s, 10, a);
-    put_drive(s, 20, b);
-    put_drive(s, 30, c);
-    put_drive(s, 40, d);
+    let first = drive_row(a);
+    let second = drive_row(b);
+    let third = drive_row(c);
+    let fourth = drive_row(d);
+    put_row(s, DRIVE0_ROW, first);
+    put_row(s, DRIVE1_ROW, second);
+    put_row(s, DRIVE2_ROW, third);
+    put_row(s, DRIVE3_ROW, fourth);
+}
+
+fn flow_row(f: Fifo) -> [u8; 16]
+    ensures { λ row. ⌜ row ≡ flowBytes f ⌝ }
+{
+    let asks = bit(f.asks);
+    let tc = bit(f.tc);
+    [f.count, asks, tc, 0, 0, 0, 0, 0, 0, 0, 0, 0, 0, 0, 0, 0]
 }
 
 fn put_fifo(s: &mut [u8], f: Fifo)
     requires { ⌜ recordSize ≤ length (now s) ⌝ }
-    ensures stored { λ _. ⌜ now (s .exit) ≡ sets (now (s .entry)) 50 (fifoBytes f) ⌝ }
+    ensures stored { λ _. ⌜ now (s .exit) ≡ fifoPut f (now (s .entry)) ⌝ }
     ensures fits { λ _. ⌜ length (f .bytes) ≡ 16 ⌝ }
 {
-    let b = f.bytes;
-    let asks = bit(f.asks);
-    let tc = bit(f.tc);
-    s[50] = b[0];
-    s[51] = b[1];
-    s[52] = b[2];
-    s[53] = b[3];
-    s[54] = b[4];
-    s[55] = b[5];
-    s[56] = b[6];
-    s[57] = b[7];
-    s[58] = b[8];
-    s[59] = b[9];
-    s[60] = b[10];
-    s[61] = b[11];
-    s[62] = b[12];
-    s[63] = b[13];
-    s[64] = b[14];
-    s[65] = b[15];
-    s[66] = f.count;
-    s[67] = asks;
-    s[68] = tc;
+    let bytes = f.bytes;
+    let flow = flow_row(f);
+    put_row(s, FIFO_ROW, bytes);
+    put_row(s, FLOW_ROW, flow);
+}
+
+fn command_row(b: Bytes) -> [u8; 16]
+    ensures bytes { λ row. ⌜ row ≡ commandBytes b ⌝ }
+    ensures fits { λ _. ⌜ length (b .command) ≡ 9 ⌝ }
+{
+    let command = b.command;
+    [
+        command[0],
+        command[1],
+        command[2],
+        command[3],
+        command[4],
+        command[5],
+        command[6],
+        command[7],
+        command[8],
+        0,
+        0,
+        0,
+        0,
+        0,
+        0,
+        b.gathered,
+    ]
+}
+
+fn result_row(b: Bytes) -> [u8; 16]
+    ensures bytes { λ row. ⌜ row ≡ resultBytes b ⌝ }
+    ensures fits { λ _. ⌜ length (b .results) ≡ 7 ⌝ }
+{
+    let results = b.results;
+    [
+        results[0],
+        results[1],
+        results[2],
+        results[3],
+        results[4],
+        results[5],
+        results[6],
+        0,
+        0,
+        0,
+        0,
+        0,
+        0,
+        0,
+        0,
+        b.left,
+    ]
 }
 
 fn put_bytes(s: &mut [u8], b: Bytes)
     requires { ⌜ recordSize ≤ length (now s) ⌝ }
-    ensures stored { λ _. ⌜ now (s .exit) ≡ sets (now (s .entry)) 69 (gatheredBytes b) ⌝ }
+    ensures stored { λ _. ⌜ now (s .exit) ≡ gatheredPut b (now (s .entry)) ⌝ }
     ensures fits { λ _. ⌜ (length (b .command) ≡ 9) × (length (b .results) ≡ 7) ⌝ }
 {
-    let command = b.command;
-    let results = b.results;
-    s[69] = command[0];
-    s[70] = command[1];
-    s[71] = command[2];
-    s[72] = command[3];
-    s[73] = command[4];
-    s[74] = command[5];
-    s[75] = command[6];
-    s[76] = command[7];
-    s[77] = command[8];
-    s[78] = b.gathered;
-    s[79] = results[0];
-    s[80] = results[1];
-    s[81] = results[2];
-    s[82] = results[3];
-    s[83] = results[4];
-    s[84] = results[5];
-    s[85] = results[6];
-    s[86] = b.left;
+    let command = command_row(b);
+    let results = result_row(b);
+    put_row(s, COMMAND_ROW, command);
+    put_row(s, RESULT_ROW, results);
 }
 
-fn put_head(s: &mut [u8], f: Flat)
-    requires { ⌜ recordSize ≤ length (now s) ⌝ }
-    ensures { λ _. ⌜ now (s .exit) ≡ sets (now (s .entry)) 87 (headBytes f) ⌝ }
+fn head_row(f: Flat) -> [u8; 16]
+    ensures { λ row. ⌜ row ≡ headBytes f ⌝ }
 {
     let entry = f.entry;
     let kind = entry.kind;
     let number = kind_number(kind);
     let loud = bit(f.loud);
-    s[87] = f.tag;
-    s[88] = number;
-    s[89] = entry.bytes;
-    s[90] = f.unit;
-    s[91] = loud;
-    s[92] = f.work;
+    [
+        f.tag,
+        number,
+        entry.bytes,
+        f.unit,
+        loud,
+        f.work,
+        0,
+        0,
+        0,
+        0,
+        0,
+        0,
+        0,
+        0,
+        0,
+        0,
+    ]
 }
 
-fn put_site(s: &mut [u8], site: Site)
-    requires { ⌜ recordSize ≤ length (now s) ⌝ }
-    ensures { λ _. ⌜ now (s .exit) ≡ sets (now (s .entry)) 93 (siteBytes site) ⌝ }
+fn site_row(site: Site, plan: Plan) -> [u8; 16]
+    ensures { λ row. ⌜ row ≡ siteBytes site plan ⌝ }
 {
     let disk = site.disk;
     let protect = bit(disk.protect);
-    s[93] = site.drive;
-    s[94] = site.side;
-    s[95] = disk.cylinders;
-    s[96] = disk.heads;
-    s[97] = disk.slots;
-    s[98] = disk.n;
-    s[99] = protect;
+    [
+        site.drive,
+        site.side,
+        disk.cylinders,
+        disk.heads,
+        disk.slots,
+        disk.n,
+        protect,
+        0,
+        plan.n,
+        plan.sc,
+        plan.fill,
+        0,
+        0,
+        0,
+        0,
+        0,
+    ]
 }
 
-fn put_task(s: &mut [u8], task: Task)
-    requires { ⌜ recordSize ≤ length (now s) ⌝ }
-    ensures { λ _. ⌜ now (s .exit) ≡ sets (now (s .entry)) 100 (taskBytes task) ⌝ }
+fn task_row(task: Task) -> [u8; 16]
+    ensures { λ row. ⌜ row ≡ taskBytes task ⌝ }
 {
     let transfer = task.transfer;
     let pass = transfer.pass;
@@ -176,30 +248,28 @@ fn put_task(s: &mut [u8], task: Task)
     let mt = bit(transfer.mt);
     let sk = bit(transfer.sk);
     let other = bit(task.other);
-    s[100] = number;
-    s[101] = deleted;
-    s[102] = mt;
-    s[103] = sk;
-    s[104] = transfer.eot;
-    s[105] = id.c;
-    s[106] = id.h;
-    s[107] = id.r;
-    s[108] = id.n;
-    s[109] = other;
+    [
+        number,
+        deleted,
+        mt,
+        sk,
+        transfer.eot,
+        transfer.dtl,
+        0,
+        0,
+        id.c,
+        id.h,
+        id.r,
+        id.n,
+        other,
+        0,
+        0,
+        0,
+    ]
 }
 
-fn put_plan(s: &mut [u8], plan: Plan)
-    requires { ⌜ recordSize ≤ length (now s) ⌝ }
-    ensures { λ _. ⌜ now (s .exit) ≡ sets (now (s .entry)) 110 (planBytes plan) ⌝ }
-{
-    s[110] = plan.n;
-    s[111] = plan.sc;
-    s[112] = plan.fill;
-}
-
-fn put_spot(s: &mut [u8], spot: Spot)
-    requires { ⌜ recordSize ≤ length (now s) ⌝ }
-    ensures stored { λ _. ⌜ now (s .exit) ≡ sets (now (s .entry)) 113 (spotBytes spot) ⌝ }
+fn spot_row(spot: Spot) -> [u8; 16]
+    ensures bytes { λ row. ⌜ row ≡ spotBytes spot ⌝ }
     ensures fits { λ _. ⌜ spot .done < 0x10000 ⌝ }
 {
     let met = bit(spot.met);
@@ -209,17 +279,24 @@ fn put_spot(s: &mut [u8], spot: Spot)
     let other = bit(spot.other);
     let h = high(spot.done);
     let l = low(spot.done);
-    s[113] = spot.stage;
-    s[114] = spot.form;
-    s[115] = spot.slot;
-    s[116] = spot.count;
-    s[117] = met;
-    s[118] = wrong;
-    s[119] = bad;
-    s[120] = broken;
-    s[121] = other;
-    s[122] = h;
-    s[123] = l;
+    [
+        spot.stage,
+        spot.form,
+        spot.slot,
+        spot.count,
+        met,
+        wrong,
+        bad,
+        broken,
+        other,
+        0,
+        h,
+        l,
+        0,
+        0,
+        0,
+        0,
+    ]
 }
 
 fn put_flat(s: &mut [u8], f: Flat)
@@ -231,11 +308,14 @@ fn put_flat(s: &mut [u8], f: Flat)
     let task = f.task;
     let plan = f.plan;
     let spot = f.spot;
-    put_head(s, f);
-    put_site(s, site);
-    put_task(s, task);
-    put_plan(s, plan);
-    put_spot(s, spot);
+    let a = head_row(f);
+    let b = site_row(site, plan);
+    let c = task_row(task);
+    let d = spot_row(spot);
+    put_row(s, PHASE_ROW, a);
+    put_row(s, SITE_ROW, b);
+    put_row(s, TASK_ROW, c);
+    put_row(s, SPOT_ROW, d);
 }
 
 fn put_record(s: &mut [u8], c: Controller)
@@ -249,7 +329,8 @@ fn put_record(s: &mut [u8], c: Controller)
     let bytes = c.bytes;
     let phase = c.phase;
     let flat = phase_flat(phase);
-    put_registers(s, registers);
+    let row = registers_row(registers);
+    put_row(s, REGISTERS_ROW, row);
     put_drives(s, drives);
     put_fifo(s, fifo);
     put_bytes(s, bytes);
@@ -261,7 +342,7 @@ pub fn store(s: &mut [u8], c: Controller)
     ensures bytes { λ _. ⌜ now (s .exit) ≡ storedOf c (now (s .entry)) ⌝ }
     ensures back { λ _. ⌜ (recordSize ≤ length (now (s .entry)) → Holds (now (s .exit)) c) ⌝ }
 {
-    let enough = 124 <= s.len();
+    let enough = RECORD_SIZE <= s.len();
     if enough {
         put_record(s, c);
     }
@@ -273,7 +354,7 @@ pub fn store_fifo(s: &mut [u8], f: Fifo)
     ensures back { λ _. ⌜ (isRecord (now (s .entry)) ≡ true
         → Holds (now (s .exit)) (withFifo f (recordIn (now (s .entry))))) ⌝ }
 {
-    let enough = 124 <= s.len();
+    let enough = RECORD_SIZE <= s.len();
     if enough {
         put_fifo(s, f);
     }

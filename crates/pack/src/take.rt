@@ -6,8 +6,81 @@ use crate::drives::drive_in;
 use crate::flat::Flat;
 use crate::flat::Spot;
 use crate::flat::phase_of;
+use crate::places::ASKS_AT;
+use crate::places::BAD_AT;
+use crate::places::BROKEN_AT;
+use crate::places::BUSY_AT;
+use crate::places::C_AT;
+use crate::places::CHANGED_AT;
+use crate::places::COMMAND_ROW;
+use crate::places::COUNT_AT;
+use crate::places::CYLINDERS_AT;
+use crate::places::DELETED_AT;
+use crate::places::DISK_SIZE_AT;
+use crate::places::DONE_AT;
+use crate::places::DOR_AT;
+use crate::places::DRIVE_NUMBER_AT;
+use crate::places::DRIVE0_ROW;
+use crate::places::DRIVE1_ROW;
+use crate::places::DRIVE2_ROW;
+use crate::places::DRIVE3_ROW;
+use crate::places::DTL_AT;
+use crate::places::DUE_AT;
+use crate::places::EFIFO_AT;
+use crate::places::EIS_AT;
+use crate::places::EOT_AT;
+use crate::places::FIFO_ROW;
+use crate::places::FIFOTHR_AT;
+use crate::places::FILL_AT;
+use crate::places::FLOW_ROW;
+use crate::places::FORM_AT;
+use crate::places::GATHERED_AT;
+use crate::places::H_AT;
+use crate::places::HEADS_AT;
+use crate::places::KIND_AT;
+use crate::places::LEFT_AT;
+use crate::places::LOUD_AT;
+use crate::places::MET_AT;
+use crate::places::MOTION_AT;
+use crate::places::MT_AT;
+use crate::places::N_AT;
+use crate::places::OTHER_AT;
+use crate::places::PASS_AT;
+use crate::places::PHASE_ROW;
+use crate::places::PLAN_SIZE_AT;
+use crate::places::POLL_AT;
+use crate::places::PRETRK_AT;
+use crate::places::PROTECT_AT;
+use crate::places::R_AT;
+use crate::places::RATE_AT;
+use crate::places::RECORD_SIZE;
+use crate::places::REGISTERS_ROW;
+use crate::places::RESULT_ROW;
+use crate::places::SC_AT;
+use crate::places::SIDE_AT;
+use crate::places::SITE_ROW;
+use crate::places::SK_AT;
+use crate::places::SLOT_AT;
+use crate::places::SLOTS_AT;
+use crate::places::SPEC1_AT;
+use crate::places::SPEC2_AT;
+use crate::places::SPOT_COUNT_AT;
+use crate::places::SPOT_ROW;
+use crate::places::STAGE_AT;
+use crate::places::TAG_AT;
+use crate::places::TASK_OTHER_AT;
+use crate::places::TASK_ROW;
+use crate::places::TC_AT;
+use crate::places::TDR_AT;
+use crate::places::UNIT_AT;
+use crate::places::VERSION;
+use crate::places::VERSION_AT;
+use crate::places::WORK_AT;
+use crate::places::WRONG_AT;
+use crate::rows::row_at;
 use chip::codes::Entry;
 use chip::fifo::Fifo;
+use drive::Drive;
 use fdc::record::Bytes;
 use fdc::record::Controller;
 use fdc::record::Registers;
@@ -18,169 +91,188 @@ use sectors::order::Transfer;
 use sectors::work::Site;
 use sectors::work::Task;
 ghost use mathlib.Core.Path.{_≡_};
-ghost use Prim.Native.Nat.{_+_, _≤_};
+ghost use Prim.Native.Nat.{_≤_};
 ghost use lib.ListN.{length};
 ghost use Rattle.pack.specs.Bytes.{
+  rowAt,
   recordSize,
   registersIn,
+  drivesIn,
   fifoIn,
   gatheredIn,
+  flatOf,
   flatIn,
   siteIn,
   taskIn,
   planIn,
   spotIn,
   recordIn,
+  registersOk,
   driveOk,
-  frontOk,
-  workOk,
+  drivesOk,
+  flowOk,
+  headOk,
+  siteOk,
+  taskOk,
+  spotOk,
+  flatOk,
   casesOk,
   isRecord,
   loadedOf,
 };
+ghost use Rattle.pack.specs.Places.{fifoRow, flowRow, commandRow, resultRow};
 
-fn registers_in(s: &[u8]) -> Registers
-    requires { ⌜ recordSize ≤ length (now s) ⌝ }
-    ensures { λ r. ⌜ r ≡ registersIn (now (s .entry)) ⌝ }
+fn registers_in(row: [u8; 16]) -> Registers
+    ensures { λ r. ⌜ r ≡ registersIn row ⌝ }
 {
     Registers {
-        dor: s[0],
-        tdr: s[1],
-        rate: s[2],
-        spec1: s[3],
-        spec2: s[4],
-        eis: s[5] == 1,
-        efifo: s[6] == 1,
-        poll: s[7] == 1,
-        fifothr: s[8],
-        pretrk: s[9],
+        dor: row[DOR_AT],
+        tdr: row[TDR_AT],
+        rate: row[RATE_AT],
+        spec1: row[SPEC1_AT],
+        spec2: row[SPEC2_AT],
+        eis: row[EIS_AT] == 1,
+        efifo: row[EFIFO_AT] == 1,
+        poll: row[POLL_AT] == 1,
+        fifothr: row[FIFOTHR_AT],
+        pretrk: row[PRETRK_AT],
     }
 }
 
-fn fifo_in(s: &[u8]) -> Fifo
-    requires { ⌜ recordSize ≤ length (now s) ⌝ }
-    ensures { λ r. ⌜ r ≡ fifoIn (now (s .entry)) ⌝ }
+fn fifo_of(bytes: [u8; 16], flow: [u8; 16]) -> Fifo
+    ensures { λ r. ⌜ r ≡ fifoIn bytes flow ⌝ }
 {
-    let bytes = [
-        s[50],
-        s[51],
-        s[52],
-        s[53],
-        s[54],
-        s[55],
-        s[56],
-        s[57],
-        s[58],
-        s[59],
-        s[60],
-        s[61],
-        s[62],
-        s[63],
-        s[64],
-        s[65],
-    ];
     Fifo {
         bytes,
-        count: s[66],
-        asks: s[67] == 1,
-        tc: s[68] == 1,
+        count: flow[COUNT_AT],
+        asks: flow[ASKS_AT] == 1,
+        tc: flow[TC_AT] == 1,
     }
 }
 
-fn bytes_in(s: &[u8]) -> Bytes
-    requires { ⌜ recordSize ≤ length (now s) ⌝ }
-    ensures { λ r. ⌜ r ≡ gatheredIn (now (s .entry)) ⌝ }
+fn bytes_of(first: [u8; 16], second: [u8; 16]) -> Bytes
+    ensures { λ r. ⌜ r ≡ gatheredIn first second ⌝ }
 {
     let command = [
-        s[69],
-        s[70],
-        s[71],
-        s[72],
-        s[73],
-        s[74],
-        s[75],
-        s[76],
-        s[77],
+        first[0],
+        first[1],
+        first[2],
+        first[3],
+        first[4],
+        first[5],
+        first[6],
+        first[7],
+        first[8],
     ];
-    let results = [s[79], s[80], s[81], s[82], s[83], s[84], s[85]];
+    let results = [
+        second[0],
+        second[1],
+        second[2],
+        second[3],
+        second[4],
+        second[5],
+        second[6],
+    ];
     Bytes {
         command,
-        gathered: s[78],
+        gathered: first[GATHERED_AT],
         results,
-        left: s[86],
+        left: second[LEFT_AT],
     }
 }
 
-fn site_in(s: &[u8]) -> Site
-    requires { ⌜ recordSize ≤ length (now s) ⌝ }
-    ensures { λ r. ⌜ r ≡ siteIn (now (s .entry)) ⌝ }
+fn site_in(row: [u8; 16]) -> Site
+    ensures { λ r. ⌜ r ≡ siteIn row ⌝ }
 {
     let disk = Geometry {
-        cylinders: s[95],
-        heads: s[96],
-        slots: s[97],
-        n: s[98],
-        protect: s[99] == 1,
+        cylinders: row[CYLINDERS_AT],
+        heads: row[HEADS_AT],
+        slots: row[SLOTS_AT],
+        n: row[DISK_SIZE_AT],
+        protect: row[PROTECT_AT] == 1,
     };
     Site {
-        drive: s[93],
-        side: s[94],
+        drive: row[DRIVE_NUMBER_AT],
+        side: row[SIDE_AT],
         disk,
     }
 }
 
-fn task_in(s: &[u8]) -> Task
-    requires { ⌜ recordSize ≤ length (now s) ⌝ }
-    ensures { λ r. ⌜ r ≡ taskIn (now (s .entry)) ⌝ }
+fn plan_in(row: [u8; 16]) -> Plan
+    ensures { λ r. ⌜ r ≡ planIn row ⌝ }
 {
-    let pass = pass_numbered(s[100]);
+    Plan {
+        n: row[PLAN_SIZE_AT],
+        sc: row[SC_AT],
+        fill: row[FILL_AT],
+    }
+}
+
+fn task_in(row: [u8; 16]) -> Task
+    ensures { λ r. ⌜ r ≡ taskIn row ⌝ }
+{
+    let pass = pass_numbered(row[PASS_AT]);
     let transfer = Transfer {
         pass,
-        deleted: s[101] == 1,
-        mt: s[102] == 1,
-        sk: s[103] == 1,
-        eot: s[104],
+        deleted: row[DELETED_AT] == 1,
+        mt: row[MT_AT] == 1,
+        sk: row[SK_AT] == 1,
+        eot: row[EOT_AT],
+        dtl: row[DTL_AT],
     };
     let id = Id {
-        c: s[105],
-        h: s[106],
-        r: s[107],
-        n: s[108],
+        c: row[C_AT],
+        h: row[H_AT],
+        r: row[R_AT],
+        n: row[N_AT],
     };
     Task {
         transfer,
         id,
-        other: s[109] == 1,
+        other: row[TASK_OTHER_AT] == 1,
     }
 }
 
-fn plan_in(s: &[u8]) -> Plan
-    requires { ⌜ recordSize ≤ length (now s) ⌝ }
-    ensures { λ r. ⌜ r ≡ planIn (now (s .entry)) ⌝ }
+fn spot_in(row: [u8; 16]) -> Spot
+    ensures { λ r. ⌜ r ≡ spotIn row ⌝ }
 {
-    Plan {
-        n: s[110],
-        sc: s[111],
-        fill: s[112],
-    }
-}
-
-fn spot_in(s: &[u8]) -> Spot
-    requires { ⌜ recordSize ≤ length (now s) ⌝ }
-    ensures { λ r. ⌜ r ≡ spotIn (now (s .entry)) ⌝ }
-{
-    let done = wide(s[122], s[123]);
+    let done = wide(row[DONE_AT], row[DONE_AT + 1]);
     Spot {
-        stage: s[113],
-        form: s[114],
-        slot: s[115],
-        count: s[116],
-        met: s[117] == 1,
-        wrong: s[118] == 1,
-        bad: s[119] == 1,
-        broken: s[120] == 1,
-        other: s[121] == 1,
+        stage: row[STAGE_AT],
+        form: row[FORM_AT],
+        slot: row[SLOT_AT],
+        count: row[SPOT_COUNT_AT],
+        met: row[MET_AT] == 1,
+        wrong: row[WRONG_AT] == 1,
+        bad: row[BAD_AT] == 1,
+        broken: row[BROKEN_AT] == 1,
+        other: row[OTHER_AT] == 1,
         done,
+    }
+}
+
+fn flat_of(head: [u8; 16], site: [u8; 16], task: [u8; 16], spot: [u8; 16]) -> Flat
+    ensures { λ r. ⌜ r ≡ flatOf head site task spot ⌝ }
+{
+    let kind = kind_numbered(head[KIND_AT]);
+    let entry = Entry {
+        kind,
+        bytes: head[DUE_AT],
+    };
+    let place = site_in(site);
+    let plan = plan_in(site);
+    let task = task_in(task);
+    let spot = spot_in(spot);
+    Flat {
+        tag: head[TAG_AT],
+        entry,
+        unit: head[UNIT_AT],
+        loud: head[LOUD_AT] == 1,
+        work: head[WORK_AT],
+        site: place,
+        task,
+        plan,
+        spot,
     }
 }
 
@@ -188,36 +280,48 @@ fn flat_in(s: &[u8]) -> Flat
     requires { ⌜ recordSize ≤ length (now s) ⌝ }
     ensures { λ r. ⌜ r ≡ flatIn (now (s .entry)) ⌝ }
 {
-    let kind = kind_numbered(s[88]);
-    let entry = Entry { kind, bytes: s[89] };
-    let site = site_in(s);
-    let task = task_in(s);
-    let plan = plan_in(s);
-    let spot = spot_in(s);
-    Flat {
-        tag: s[87],
-        entry,
-        unit: s[90],
-        loud: s[91] == 1,
-        work: s[92],
-        site,
-        task,
-        plan,
-        spot,
-    }
+    let head = row_at(s, PHASE_ROW);
+    let site = row_at(s, SITE_ROW);
+    let task = row_at(s, TASK_ROW);
+    let spot = row_at(s, SPOT_ROW);
+    flat_of(head, site, task, spot)
+}
+
+fn fifo_in(s: &[u8]) -> Fifo
+    requires { ⌜ recordSize ≤ length (now s) ⌝ }
+    ensures { λ r. ⌜ r ≡ fifoIn (rowAt (now (s .entry)) fifoRow) (rowAt (now (s .entry)) flowRow) ⌝ }
+{
+    let bytes = row_at(s, FIFO_ROW);
+    let flow = row_at(s, FLOW_ROW);
+    fifo_of(bytes, flow)
+}
+
+fn drives_in(s: &[u8]) -> [Drive; 4]
+    requires { ⌜ recordSize ≤ length (now s) ⌝ }
+    ensures { λ r. ⌜ r ≡ drivesIn (now (s .entry)) ⌝ }
+{
+    let a = drive_in(row_at(s, DRIVE0_ROW));
+    let b = drive_in(row_at(s, DRIVE1_ROW));
+    let c = drive_in(row_at(s, DRIVE2_ROW));
+    let d = drive_in(row_at(s, DRIVE3_ROW));
+    [a, b, c, d]
+}
+
+fn bytes_in(s: &[u8]) -> Bytes
+    requires { ⌜ recordSize ≤ length (now s) ⌝ }
+    ensures { λ r. ⌜ r ≡ gatheredIn (rowAt (now (s .entry)) commandRow) (rowAt (now (s .entry)) resultRow) ⌝ }
+{
+    let command = row_at(s, COMMAND_ROW);
+    let results = row_at(s, RESULT_ROW);
+    bytes_of(command, results)
 }
 
 fn record_in(s: &[u8]) -> Controller
     requires { ⌜ recordSize ≤ length (now s) ⌝ }
     ensures { λ r. ⌜ r ≡ recordIn (now (s .entry)) ⌝ }
 {
-    let registers = registers_in(s);
-    let drives = [
-        drive_in(s, 10),
-        drive_in(s, 20),
-        drive_in(s, 30),
-        drive_in(s, 40),
-    ];
+    let registers = registers_in(row_at(s, REGISTERS_ROW));
+    let drives = drives_in(s);
     let fifo = fifo_in(s);
     let bytes = bytes_in(s);
     let phase = phase_of(flat_in(s));
@@ -230,61 +334,95 @@ fn record_in(s: &[u8]) -> Controller
     }
 }
 
-fn drive_ok(s: &[u8], at: usize) -> bool
-    requires { ⌜ at + 10 ≤ length (now s) ⌝ }
-    ensures { λ r. ⌜ r ≡ driveOk (now (s .entry)) at ⌝ }
+fn registers_ok(row: [u8; 16]) -> bool
+    ensures { λ r. ⌜ r ≡ registersOk row ⌝ }
 {
-    (s[at + 2] <= 1) & (s[at + 3] <= 1) & (s[at + 5] <= 2)
+    (row[EIS_AT] <= 1) & (row[EFIFO_AT] <= 1) & (row[POLL_AT] <= 1)
 }
 
-fn front_ok(s: &[u8]) -> bool
-    requires { ⌜ recordSize ≤ length (now s) ⌝ }
-    ensures { λ r. ⌜ r ≡ frontOk (now (s .entry)) ⌝ }
+fn drive_ok(row: [u8; 16]) -> bool
+    ensures { λ r. ⌜ r ≡ driveOk row ⌝ }
 {
-    (s[5] <= 1)
-        & (s[6] <= 1)
-        & (s[7] <= 1)
-        & (s[67] <= 1)
-        & (s[68] <= 1)
-        & (s[87] <= 5)
-        & (s[88] <= 13)
-        & (s[91] <= 1)
-        & (s[92] <= 2)
+    (row[CHANGED_AT] <= 1) & (row[BUSY_AT] <= 1) & (row[MOTION_AT] <= 2)
 }
 
-fn work_ok(s: &[u8]) -> bool
-    requires { ⌜ recordSize ≤ length (now s) ⌝ }
-    ensures { λ r. ⌜ r ≡ workOk (now (s .entry)) ⌝ }
+fn flow_ok(row: [u8; 16]) -> bool
+    ensures { λ r. ⌜ r ≡ flowOk row ⌝ }
 {
-    (s[99] <= 1)
-        & (s[100] <= 1)
-        & (s[101] <= 1)
-        & (s[102] <= 1)
-        & (s[103] <= 1)
-        & (s[109] <= 1)
-        & (s[113] <= 5)
-        & (s[114] <= 3)
-        & (s[117] <= 1)
-        & (s[118] <= 1)
-        & (s[119] <= 1)
-        & (s[120] <= 1)
-        & (s[121] <= 1)
+    (row[ASKS_AT] <= 1) & (row[TC_AT] <= 1)
+}
+
+fn head_ok(row: [u8; 16]) -> bool
+    ensures { λ r. ⌜ r ≡ headOk row ⌝ }
+{
+    (row[TAG_AT] <= 5) & (row[KIND_AT] <= 13) & (row[LOUD_AT] <= 1) & (row[WORK_AT] <= 2)
+}
+
+fn site_ok(row: [u8; 16]) -> bool
+    ensures { λ r. ⌜ r ≡ siteOk row ⌝ }
+{
+    row[PROTECT_AT] <= 1
+}
+
+fn task_ok(row: [u8; 16]) -> bool
+    ensures { λ r. ⌜ r ≡ taskOk row ⌝ }
+{
+    (row[PASS_AT] <= 1)
+        & (row[DELETED_AT] <= 1)
+        & (row[MT_AT] <= 1)
+        & (row[SK_AT] <= 1)
+        & (row[TASK_OTHER_AT] <= 1)
+}
+
+fn spot_ok(row: [u8; 16]) -> bool
+    ensures { λ r. ⌜ r ≡ spotOk row ⌝ }
+{
+    (row[STAGE_AT] <= 5)
+        & (row[FORM_AT] <= 3)
+        & (row[MET_AT] <= 1)
+        & (row[WRONG_AT] <= 1)
+        & (row[BAD_AT] <= 1)
+        & (row[BROKEN_AT] <= 1)
+        & (row[OTHER_AT] <= 1)
+}
+
+fn drives_ok(s: &[u8]) -> bool
+    requires { ⌜ recordSize ≤ length (now s) ⌝ }
+    ensures { λ r. ⌜ r ≡ drivesOk (now (s .entry)) ⌝ }
+{
+    drive_ok(row_at(s, DRIVE0_ROW))
+        & drive_ok(row_at(s, DRIVE1_ROW))
+        & drive_ok(row_at(s, DRIVE2_ROW))
+        & drive_ok(row_at(s, DRIVE3_ROW))
+}
+
+fn flat_ok(s: &[u8]) -> bool
+    requires { ⌜ recordSize ≤ length (now s) ⌝ }
+    ensures { λ r. ⌜ r ≡ flatOk (now (s .entry)) ⌝ }
+{
+    head_ok(row_at(s, PHASE_ROW))
+        & site_ok(row_at(s, SITE_ROW))
+        & task_ok(row_at(s, TASK_ROW))
+        & spot_ok(row_at(s, SPOT_ROW))
 }
 
 fn cases_ok(s: &[u8]) -> bool
     requires { ⌜ recordSize ≤ length (now s) ⌝ }
     ensures { λ r. ⌜ r ≡ casesOk (now (s .entry)) ⌝ }
 {
-    front_ok(s) & drive_ok(s, 10) & drive_ok(s, 20) & drive_ok(s, 30) & drive_ok(s, 40) & work_ok(s)
+    registers_ok(row_at(s, REGISTERS_ROW))
+        & drives_ok(s)
+        & flow_ok(row_at(s, FLOW_ROW))
+        & flat_ok(s)
 }
 
-// Whether bytes are a record.
+// Whether bytes are a record, and of this layout.
 pub fn is_record(s: &[u8]) -> bool
     ensures { λ r. ⌜ r ≡ isRecord (now (s .entry)) ⌝ }
 {
-    let long = 124 <= s.len();
+    let long = RECORD_SIZE <= s.len();
     if long {
-        return cases_ok(s);
+        return (s[VERSION_AT] == VERSION) & cases_ok(s);
     }
     false
 }
@@ -293,7 +431,7 @@ pub fn is_record(s: &[u8]) -> bool
 pub fn load(s: &[u8]) -> Controller
     ensures { λ r. ⌜ r ≡ loadedOf (now (s .entry)) ⌝ }
 {
-    let enough = 124 <= s.len();
+    let enough = RECORD_SIZE <= s.len();
     if enough {
         return record_in(s);
     }
@@ -304,7 +442,7 @@ pub fn load(s: &[u8]) -> Controller
 pub fn load_fifo(s: &[u8]) -> Fifo
     ensures { λ r. ⌜ r ≡ loadedOf (now (s .entry)) .fifo ⌝ }
 {
-    let enough = 124 <= s.len();
+    let enough = RECORD_SIZE <= s.len();
     if enough {
         return fifo_in(s);
     }

@@ -16,7 +16,7 @@ use Rattle.runs.specs.Host.{moving, idle, poured, times, trackOf, imageO
 use Rattle.runs.specs.Whole.{Given, Outcome, waiting, WriteRun, Served}
 
 abbrev pub writing : Bool → Bool → ℕ → Transfer
-writing deleted mt eot = record { pass = Write; deleted = deleted; mt = mt; sk = false; eot = eot }
+writing deleted mt eot = record { pass = Write; deleted = deleted; mt = mt; sk = false; eot = eot; dtl = 0 }
 
 -- a byte after each tick
 abbrev pub fed : List ℕ → List Call

@@ -15,7 +15,7 @@ use Rattle.runs.specs.Host.{moving, idle, taken, fetched, times, content
 use Rattle.runs.specs.Whole.{Given, Outcome, waiting, ReadRun, Served}
 
 abbrev pub reading : Bool → Bool → Bool → ℕ → Transfer
-reading deleted mt sk eot = record { pass = Read; deleted = deleted; mt = mt; sk = sk; eot = eot }
+reading deleted mt sk eot = record { pass = Read; deleted = deleted; mt = mt; sk = sk; eot = eot; dtl = 0 }
 
 -- FIFO off, DMA: sector 1 to its end at EOT, no TC
 abbrev pub pastEot : Given

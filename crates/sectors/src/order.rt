@@ -7,13 +7,14 @@ pub enum Pass {
     Write,
 }
 
-// Read Data, Read Deleted, Write Data, Write Deleted.
+// Read Data, Read Deleted, Write Data, Write Deleted. dtl: DTL where N is 0; no header has that N, so it is 0 (R27).
 pub struct Transfer {
     pub pass: Pass,
     pub deleted: bool,
     pub mt: bool,
     pub sk: bool,
     pub eot: u8,
+    pub dtl: u8,
 }
 
 // Format.

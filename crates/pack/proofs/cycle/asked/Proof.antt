@@ -1,8 +1,8 @@
 -- `pack::cycle::asked` meets its contract.
 -- Assumes nothing.
-use mathlib.Core.Path.{refl}
 use Rattle.pack.specs.Cycle.{askedIn}
 use borrow.Author.Needs.{needs}
+use mathlib.Core.Path.{refl}
 use Rattle.pack.proofs.cycle.asked.Statement.{statement}
 use Rattle.pack.proofs.cycle.asked.Tie as tie
 

@@ -10,19 +10,19 @@ unfolding cyclesIn
 cycles-spec =
     tie.close
     (tie.spec
-    (λ c κs. search needs) (λ c κs. search needs) (λ c κs. search needs) (λ c κs. search needs)
-    (λ c κs. search needs) (λ c κs. search needs)
+    (λ c κs. search needs) (λ c κs. search needs) (λ c κs. search needs) (λ c κs. search needs) (λ c κs. search needs)
+    (λ c κs. search needs)
     (λ c.
-    let at-still3 = c .before in
-    let at-still2 = at-still3 .before in
-    let at-still = at-still2 .before in
-    let at-bounded = at-still .before in
+    let at-bounded = c .before in
     let at-asked = at-bounded .before in
+    let at-row-at3 = at-asked .before in
+    let at-row-at2 = at-row-at3 .before in
+    let at-row-at = at-row-at2 .before in
     rw (
-      c .still4 .ensures,
-      at-still3 .still3 .ensures,
-      at-still2 .still2 .ensures,
-      at-still .still .ensures,
+      c .drives-still .ensures,
       at-bounded .bounded .ensures,
       at-asked .asked .ensures,
+      at-row-at3 .row-at3 .ensures,
+      at-row-at2 .row-at2 .ensures,
+      at-row-at .row-at .ensures,
     )))

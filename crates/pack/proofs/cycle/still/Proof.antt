@@ -1,8 +1,8 @@
 -- `pack::cycle::still` meets its contract.
 -- Assumes nothing.
-use mathlib.Core.Path.{refl}
 use Rattle.pack.specs.Cycle.{stillIn}
 use borrow.Author.Needs.{needs}
+use mathlib.Core.Path.{refl}
 use Rattle.pack.proofs.cycle.still.Statement.{statement}
 use Rattle.pack.proofs.cycle.still.Tie as tie
 
@@ -11,5 +11,5 @@ unfolding stillIn
 still-spec =
     tie.close
     (tie.spec
-    (λ c. search needs) (λ c. search needs) (λ c. search needs)
+    (λ c. search needs) (λ c. search needs)
     (λ c. refl))

@@ -8,12 +8,7 @@ pub drive-in-spec : {M : Type 1} → statement M
 drive-in-spec =
     tie.close
     (tie.spec
-    (λ c. search needs) (λ c. search needs) (λ c. search needs) (λ c. search needs) (λ c κs. search needs)
-    (λ c. search needs) (λ c. search needs) (λ c. search needs) (λ c. search needs) (λ c. search needs)
-    (λ c. search needs) (λ c κs. search needs) (λ c. search needs) (λ c. search needs) (λ c. search needs)
-    (λ c. search needs) (λ c. search needs) (λ c. search needs) (λ c. search needs) (λ c. search needs)
-    (λ c. search needs)
-    (λ c.
-    let at-motion-of = c .before .before .before .before .before in
-    let at-wide = at-motion-of .before .before .before .before in
-    rw (at-motion-of .motion-of .ensures, at-wide .wide .ensures)))
+    (λ c. search needs) (λ c. search needs) (λ c. search needs) (λ c κs. search needs) (λ c. search needs)
+    (λ c. search needs) (λ c. search needs) (λ c κs. search needs) (λ c. search needs) (λ c. search needs)
+    (λ c. search needs) (λ c. search needs) (λ c. search needs)
+    (λ c. rw (c .motion-of .ensures, c .before .wide .ensures)))

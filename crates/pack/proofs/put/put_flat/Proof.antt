@@ -10,20 +10,26 @@ unfolding flatPut
 put-flat-spec =
     tie.close
     (tie.spec
-    (λ c κs. search needs) (λ c κs. search needs) (λ c κs. search needs) (λ c κs. search needs)
-    (λ c κs. search needs) (λ c. search needs)
+    (λ c κs. search needs) (λ c κs. search needs) (λ c κs. search needs) (λ c κs. search needs) (λ c κs. search needs)
+    (λ c κs. search needs) (λ c κs. search needs) (λ c κs. search needs) (λ c. search needs)
     (λ c.
-    let at-put-spot = c .before .before in
-    let at-put-plan = at-put-spot .before .before .before .before in
-    let at-put-task = at-put-plan .before .before .before .before in
-    let at-put-site = at-put-task .before .before .before .before in
-    let at-put-head = at-put-site .before .before .before .before in (
+    let at-put-row4 = c .before .before in
+    let at-put-row3 = at-put-row4 .before .before .before .before in
+    let at-put-row2 = at-put-row3 .before .before .before .before in
+    let at-put-row = at-put-row2 .before .before .before .before in
+    let at-spot-row = at-put-row .before .before in
+    let at-task-row = at-spot-row .before in
+    let at-site-row = at-task-row .before in
+    let at-head-row = at-site-row .before in (
       rw (
-        at-put-spot .put-spot .ensures .0,
-        at-put-plan .put-plan .ensures,
-        at-put-task .put-task .ensures,
-        at-put-site .put-site .ensures,
-        at-put-head .put-head .ensures,
+        at-put-row4 .put-row4 .ensures,
+        at-put-row3 .put-row3 .ensures,
+        at-put-row2 .put-row2 .ensures,
+        at-put-row .put-row .ensures,
+        at-spot-row .spot-row .ensures .0,
+        at-task-row .task-row .ensures,
+        at-site-row .site-row .ensures,
+        at-head-row .head-row .ensures,
       ),
-      at-put-spot .put-spot .ensures .1,
+      at-spot-row .spot-row .ensures .1,
     )))

@@ -10,19 +10,19 @@ unfolding casesOk
 cases-ok-spec =
     tie.close
     (tie.spec
-    (λ c κs. search needs) (λ c κs. search needs) (λ c κs. search needs) (λ c κs. search needs)
-    (λ c κs. search needs) (λ c κs. search needs)
+    (λ c κs. search needs) (λ c κs. search needs) (λ c κs. search needs) (λ c κs. search needs) (λ c κs. search needs)
+    (λ c κs. search needs)
     (λ c.
-    let at-drive-ok4 = c .before in
-    let at-drive-ok3 = at-drive-ok4 .before in
-    let at-drive-ok2 = at-drive-ok3 .before in
-    let at-drive-ok = at-drive-ok2 .before in
-    let at-front-ok = at-drive-ok .before in
+    let at-flow-ok = c .before in
+    let at-row-at2 = at-flow-ok .before in
+    let at-drives-ok = at-row-at2 .before in
+    let at-registers-ok = at-drives-ok .before in
+    let at-row-at = at-registers-ok .before in
     rw (
-      c .work-ok .ensures,
-      at-drive-ok4 .drive-ok4 .ensures,
-      at-drive-ok3 .drive-ok3 .ensures,
-      at-drive-ok2 .drive-ok2 .ensures,
-      at-drive-ok .drive-ok .ensures,
-      at-front-ok .front-ok .ensures,
+      c .flat-ok .ensures,
+      at-flow-ok .flow-ok .ensures,
+      at-row-at2 .row-at2 .ensures,
+      at-drives-ok .drives-ok .ensures,
+      at-registers-ok .registers-ok .ensures,
+      at-row-at .row-at .ensures,
     )))

@@ -1,8 +1,8 @@
 -- `pack::take::drive_ok` meets its contract.
 -- Assumes nothing.
-use mathlib.Core.Path.{refl}
 use Rattle.pack.specs.Bytes.{driveOk}
 use borrow.Author.Needs.{needs}
+use mathlib.Core.Path.{refl}
 use Rattle.pack.proofs.take.drive_ok.Statement.{statement}
 use Rattle.pack.proofs.take.drive_ok.Tie as tie
 
@@ -11,6 +11,5 @@ unfolding driveOk
 drive-ok-spec =
     tie.close
     (tie.spec
-    (λ c. search needs) (λ c. search needs) (λ c. search needs) (λ c. search needs) (λ c. search needs)
-    (λ c. search needs)
+    (λ c. search needs) (λ c. search needs) (λ c. search needs)
     (λ c. refl))

@@ -8,19 +8,16 @@ pub flat-in-spec : {M : Type 1} → statement M
 flat-in-spec =
     tie.close
     (tie.spec
-    (λ c. search needs) (λ c κs. search needs) (λ c. search needs) (λ c κs. search needs) (λ c κs. search needs)
-    (λ c κs. search needs) (λ c κs. search needs) (λ c. search needs) (λ c. search needs) (λ c. search needs)
-    (λ c. search needs)
+    (λ c κs. search needs) (λ c κs. search needs) (λ c κs. search needs) (λ c κs. search needs) (λ c κs. search needs)
     (λ c.
-    let at-spot-in = c .before .before .before .before in
-    let at-plan-in = at-spot-in .before in
-    let at-task-in = at-plan-in .before in
-    let at-site-in = at-task-in .before in
-    let at-kind-numbered = at-site-in .before .before in
+    let at-row-at4 = c .before in
+    let at-row-at3 = at-row-at4 .before in
+    let at-row-at2 = at-row-at3 .before in
+    let at-row-at = at-row-at2 .before in
     rw (
-      at-spot-in .spot-in .ensures,
-      at-plan-in .plan-in .ensures,
-      at-task-in .task-in .ensures,
-      at-site-in .site-in .ensures,
-      at-kind-numbered .kind-numbered .ensures,
+      c .flat-of .ensures,
+      at-row-at4 .row-at4 .ensures,
+      at-row-at3 .row-at3 .ensures,
+      at-row-at2 .row-at2 .ensures,
+      at-row-at .row-at .ensures,
     )))

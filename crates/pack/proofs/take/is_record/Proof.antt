@@ -2,6 +2,8 @@
 -- Assumes nothing.
 use Rattle.pack.specs.Bytes.{isRecord}
 use borrow.Author.Needs.{needs}
+use native.Mathlib.Omega.{arith}
+use borrow.Author.Tests.{leb-true}
 use Rattle.pack.proofs.take.is_record.Statement.{statement}
 use Rattle.pack.proofs.take.is_record.Tie as tie
 
@@ -10,6 +12,7 @@ unfolding isRecord
 is-record-spec =
     tie.close
     (tie.spec
+    (λ c. omega (arith, leb-true))
     (λ c κs. search needs)
-    (λ c. rw (c .cases-ok .ensures, c .before .if1 .taken))
+    (λ c. rw (c .cases-ok .ensures, c .before .before .if1 .taken))
     (λ c. rw (c .if1 .left)))

@@ -8,7 +8,7 @@ pub spot-in-spec : {M : Type 1} → statement M
 spot-in-spec =
     tie.close
     (tie.spec
-    (λ c. search needs) (λ c. search needs) (λ c κs. search needs) (λ c. search needs) (λ c. search needs)
+    (λ c. search needs) (λ c. search needs) (λ c. search needs) (λ c κs. search needs) (λ c. search needs)
     (λ c. search needs) (λ c. search needs) (λ c. search needs) (λ c. search needs) (λ c. search needs)
-    (λ c. search needs) (λ c. search needs)
-    (λ c. rw (c .before .before .before .before .before .before .before .before .before .wide .ensures)))
+    (λ c. search needs) (λ c. search needs) (λ c. search needs)
+    (λ c. rw (c .wide .ensures)))
