@@ -103,14 +103,19 @@ fn head_after(number: u8, goes_in: bool, head: u8) -> u8
 }
 
 impl Drive {
+    // 01 Form power-on.
+    pub const PCN: u8 = 0;
+
+    pub const CHANGED: bool = true;
+
     // 01 Registers power-on.
     pub fn new(head: u8) -> Drive
         ensures { λ r. ⌜ r ≡ fresh head ⌝ }
     {
         Drive {
             head,
-            pcn: 0,
-            changed: true,
+            pcn: Drive::PCN,
+            changed: Drive::CHANGED,
             busy: false,
             report: 0,
             motion: Motion::Still,
@@ -123,7 +128,7 @@ impl Drive {
     {
         Drive {
             head: self.head,
-            pcn: 0,
+            pcn: Drive::PCN,
             changed: self.changed,
             busy: false,
             report: 0,

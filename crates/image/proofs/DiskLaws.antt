@@ -129,6 +129,17 @@ module _ (img : List ℕ) (g : Geometry) (f : Fits g img) where
   unfolding diskIn
   fits-present = rw (fits-geometry, fits-header, eq-eqb (length img) (lengthOf g) (f .size))
 
+-- fewer bytes than a header hold no disk
+pub short-absent : (img : List ℕ) → length img < 8 → diskIn img ≡ Absent
+unfolding diskIn
+short-absent img short =
+    let asked : ℕ = lengthOf (geometryIn img) in
+    by-test (headerIn img && eqb (length img) asked) (λ (d : Disk). d ≡ Absent) (Present (geometryIn img)) Absent
+    (λ t.
+    let size : length img ≡ asked = eqb-true (length img) asked (both (headerIn img) (eqb (length img) asked) t .1) in
+    absurd (omega (arith, length-ge (geometryIn img), size)))
+    (λ _. refl)
+
 -- 01 Image: every other is empty
 pub absent-fits-none : (img : List ℕ) → diskIn img ≡ Absent → (g : Geometry) → Fits g img → ⊥
 absent-fits-none img a g f =

@@ -1,7 +1,8 @@
 // 01 Image mounted: is there a disk in a lent slice? (The motor bit is the controller's.)
-use crate::bytes::byte_at;
 use crate::layout::Geometry;
 ghost use mathlib.Core.Path.{_≡_};
+ghost use lib.ListN.{length};
+ghost use Prim.Native.Nat.{_≤_};
 ghost use Rattle.image.specs.Disk.{within, inRange, headerIn, geometryIn, diskIn};
 
 // What a slice is to a drive.
@@ -28,34 +29,32 @@ fn ranges(cylinders: u8, heads: u8, slots: u8, n: u8, protect: u8) -> bool
 
 // Tag 01, length 5, and five bytes in range.
 fn header_ok(s: &[u8]) -> bool
+    requires { ⌜ 8 ≤ length (now s) ⌝ }
     ensures { λ r. ⌜ r ≡ headerIn (now (s .entry)) ⌝ }
 {
-    let tag = (byte_at(s, 0) == 1) & (byte_at(s, 1) == 0) & (byte_at(s, 2) == 5);
-    tag
-        & ranges(
-            byte_at(s, 3),
-            byte_at(s, 4),
-            byte_at(s, 5),
-            byte_at(s, 6),
-            byte_at(s, 7),
-        )
+    (s[0] == 1) & (s[1] == 0) & (s[2] == 5) & ranges(s[3], s[4], s[5], s[6], s[7])
 }
 
 fn geometry_in(s: &[u8]) -> Geometry
+    requires { ⌜ 8 ≤ length (now s) ⌝ }
     ensures { λ r. ⌜ r ≡ geometryIn (now (s .entry)) ⌝ }
 {
     Geometry {
-        cylinders: byte_at(s, 3),
-        heads: byte_at(s, 4),
-        slots: byte_at(s, 5),
-        n: byte_at(s, 6),
-        protect: byte_at(s, 7) == 1,
+        cylinders: s[3],
+        heads: s[4],
+        slots: s[5],
+        n: s[6],
+        protect: s[7] == 1,
     }
 }
 
+// Fewer bytes than a header are as long as no header asks.
 pub fn disk_in(s: &[u8]) -> Disk
     ensures { λ r. ⌜ r ≡ diskIn (now (s .entry)) ⌝ }
 {
+    if s.len() < 8 {
+        return Disk::Absent;
+    }
     let g = geometry_in(s);
     let fits = header_ok(s) & (s.len() == g.length());
     if fits {
