@@ -130,6 +130,7 @@ pub const MT_AT: usize = 2;
 pub const SK_AT: usize = 3;
 
 pub const EOT_AT: usize = 4;
+
 pub const DTL_AT: usize = 5;
 
 pub const C_AT: usize = 8;
