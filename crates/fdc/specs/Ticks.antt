@@ -8,6 +8,7 @@ use lib.Dec.{eqb, ltb}
 use Rattle.chip.specs.declared.fifo.Fifo.{Fifo}
 use Rattle.chip.specs.declared.refusal.Refusal.the-variants.{Damaged}
 use Rattle.drive.specs.declared.Drive.{Drive}
+use Rattle.drive.specs.Drive.{standsIn}
 use Rattle.drive.specs.Step.{tickOf as tickDrive}
 use Rattle.sectors.specs.declared.order.Order.{Order}
 use Rattle.sectors.specs.declared.work.Step.{Step}
@@ -54,6 +55,13 @@ tickAll drives mounted0 mounted1 ticks =
     ∷ tickDrive 2 false ticks (driveAt 2 drives)
     ∷ tickDrive 3 false ticks (driveAt 3 drives)
     ∷ []
+
+-- no drive has a Seek or Recalibrate going on
+abbrev pub standsAt : ℕ → List Drive → Bool
+standsAt k drives = standsIn (driveAt k drives .motion)
+
+abbrev pub allStand : List Drive → Bool
+allStand drives = standsAt 0 drives && standsAt 1 drives && standsAt 2 drives && standsAt 3 drives
 
 unfoldable pub steppedOf : List ℕ → List ℕ → Controller → Controller
 steppedOf a b c =
