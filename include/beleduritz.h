@@ -37,7 +37,8 @@ extern "C" {
 #define BEL_REFUSED_PORT 1   /* no such port: offset 0, 1, 6 or above 7 */
 #define BEL_REFUSED_TURN 2   /* FIFO while RQM is 0 or DIO has the other direction */
 #define BEL_REFUSED_LINE 3   /* DMA cycle while DRQ is off or of the other direction */
-#define BEL_REFUSED_RECORD 4 /* too few bytes, bytes that are no record (lines 0), or a record no call can leave */
+#define BEL_REFUSED_RECORD 4 /* too few bytes, bytes that are no record (lines 0), or a record with one of document 01's
+                              * six faults; other records that no call leaves are accepted */
 #define BEL_REFUSED_HEAD 5   /* power-on with a head above 81 */
 #define BEL_REFUSED_DRIVE 6  /* disk-change note for a drive above 1 */
 
