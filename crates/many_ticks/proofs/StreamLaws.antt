@@ -3,7 +3,7 @@
 -- Assumes nothing.
 use Prim.Native.Nat.{ℕ, zero, suc, _+_, _-_, _%_, _≤_, _<_}
 use native.Mathlib.Omega.{arith}
-use mathlib.Core.Bool.{Bool, true, false, not, _||_, cond, Bool·beq, false≢true}
+use mathlib.Core.Bool.{Bool, true, false, not, _||_, cond, Bool·beq}
 use mathlib.Core.List.{List, []}
 use mathlib.Core.Path.{_≡_, refl, sym, _∙_, subst}
 use lib.Dec.{eqb, leb}
@@ -14,7 +14,7 @@ use Rattle.image.specs.declared.lent.Effect.the-variants.{Nothing, Store}
 use Rattle.image.specs.Disk.{diskIn}
 use Rattle.image.specs.Lent.{pickOf, storedAs}
 use Rattle.image.proofs.DiskLaws.{store-keeps-disk}
-use Rattle.image.proofs.TestLaws.{by-test, both}
+use Rattle.image.proofs.TestLaws.{by-test, both, beq-self, beq-true}
 use Rattle.chip.specs.declared.fifo.Fifo.{Fifo}
 use Rattle.chip.specs.Fifo.{capacityOf, fullOf, frontOf, filledOf, drawnOf}
 use Rattle.sectors.specs.declared.work.Sector.{Sector}
@@ -56,18 +56,8 @@ use Rattle.many_ticks.specs.Stream.{stageStream, workStream, phaseStream
 use Rattle.many_ticks.specs.Stream.{meetsOf, kept, restsOf, streamIn}
 
 -- the lines as they are
-beq-same : (t : Bool) → Bool·beq t t ≡ true
-beq-same true = refl
-beq-same false = refl
-
-beq-true : (t u : Bool) → Bool·beq t u ≡ true → t ≡ u
-beq-true true true h = refl
-beq-true true false h = absurd (false≢true h)
-beq-true false true h = absurd (false≢true h)
-beq-true false false h = refl
-
 unchanged : (x : Answer) → changedIn x x ≡ false
-unchanged x = rw (beq-same (x .int), beq-same (x .drq))
+unchanged x = rw (beq-self (x .int), beq-self (x .drq))
 
 stay : (n : ℕ) (r : Ran) → runOf n r ≡ onwardOf (r .answer) n r
 stay n r = rw (unchanged (r .answer))

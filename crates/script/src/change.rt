@@ -1,7 +1,7 @@
 // Which bytes of an image differ from its file's: only these are written back.
 ghost use mathlib.Core.Path.{_≡_};
-ghost use Prim.Native.Nat.{_+_, _≤_};
-ghost use lib.ListN.{length, drop};
+ghost use Prim.Native.Nat.{_+_};
+ghost use lib.ListN.{drop};
 ghost use Rattle.script.specs.Change.{stretch};
 
 // Where the bytes that are equal in both end, from a place on, or those that differ. Past the shorter one nothing is
