@@ -180,15 +180,6 @@ two-bits : (m want other : ℕ) → m ≤ 255 → want ≤ 1 → other ≤ 1 →
     → (m / 128 % 2 ≡ 0) ⊎ (m / 64 % 2 ≡ other)
 two-bits m want other l w o d n = ⊎-elim (λ h. inl (omega arith)) (λ h. inr (omega arith)) (le-or-lt (m / 128) 0)
 
--- a phase that has nothing to read shows no 11 in MSR's upper two bits
-flow-reads : (f : Flow) (dma asks : Bool) (busy : ℕ) → busy ≤ 15 → (flowStatus f dma asks + busy) / 64 ≡ 3
-    → fromHost f ≡ false
-flow-reads Quiet dma asks busy l e = refl
-flow-reads ToHost dma asks busy l e = refl
-flow-reads FromHost true asks busy l e = absurd (omega arith)
-flow-reads FromHost false true busy l e = absurd (omega arith)
-flow-reads FromHost false false busy l e = absurd (omega arith)
-
 -- a read that is in turn is answered with a byte
 data Reads (c : Controller) (a : Answer) : Type 0 where
   byte-of : (byte : ℕ) (e : Controller) → a ≡ answerOf (Byte byte) e → Reads c a

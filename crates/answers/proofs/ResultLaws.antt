@@ -2,13 +2,13 @@
 -- Assumes nothing.
 use Prim.Native.Nat.{ℕ, _+_, _<_, _≤_}
 use native.Mathlib.Omega.{arith}
-use mathlib.Core.Bool.{Bool, Bool·beq, true, false, _&&_, _||_, false≢true, and-false, or-true}
+use mathlib.Core.Bool.{Bool, Bool·beq, true, false, _&&_, _||_, and-false, or-true}
 use mathlib.Core.List.{List}
 use mathlib.Core.Logic.{inl, inr}
 use mathlib.Core.Path.{_≡_, refl, sym, _∙_, ap}
 use lib.Dec.{eqb}
 use borrow.Author.Tests.{eqb-true, eq-eqb, ne-eqb, le-leb, lt-leb, lt-ltb, le-ltb}
-use Rattle.image.proofs.TestLaws.{both}
+use Rattle.image.proofs.TestLaws.{both, beq-true}
 use Rattle.chip.specs.declared.fifo.Fifo.{Fifo}
 use Rattle.chip.specs.Fifo.{capacityOf}
 use Rattle.chip.specs.Next.{nextOf, advancedOf}
@@ -66,30 +66,10 @@ use Rattle.answers.specs.Results.{Fails, SearchEnds, ReadEnds, WriteEnds
 use Rattle.answers.specs.Results.{FormatEnds, Lost, LostEnds, ResultBytes}
 use Rattle.demands.specs.Work.{Real}
 use Rattle.demands.proofs.CallLaws.{tick-starts, tick-works, after-tick}
+use Rattle.demands.proofs.CourseLaws.{same-geometry}
 use Rattle.demands.proofs.QuietLaws.{quiet-real}
 
 -- a disk is the same as itself, and no other is
-beq-self : (t : Bool) → Bool·beq t t ≡ true
-beq-self true = refl
-beq-self false = refl
-
-same-self : (g : Geometry) → sameOf g g ≡ true
-unfolding sameOf
-same-self g =
-    simp (
-      eq-eqb (g .cylinders) _ refl,
-      eq-eqb (g .heads) _ refl,
-      eq-eqb (g .slots) _ refl,
-      eq-eqb (g .n) _ refl,
-      beq-self (g .protect),
-    )
-
-beq-true : (t u : Bool) → Bool·beq t u ≡ true → t ≡ u
-beq-true true true e = refl
-beq-true true false e = absurd (false≢true e)
-beq-true false true e = absurd (false≢true e)
-beq-true false false e = refl
-
 same-true : (g h : Geometry) → sameOf g h ≡ true → g ≡ h
 unfolding sameOf
 same-true g h e =
@@ -140,7 +120,7 @@ module _ (c : Controller) (a b : List ℕ) where
   unfolding goOnOf staysOf
   later-is work step during s =
       tick-works a b c work (quiet-real c (during .real)) (during .works)
-      ∙ rw (during .stays, same-self (siteOf work .disk), s)
+      ∙ rw (during .stays, same-geometry (siteOf work .disk), s)
 
   lost-is : (work : Work) → Real c → c .phase ≡ Working work → Lost (diskOf (driveOf work) a b c) (siteOf work .disk)
       → ruledOf a b c ≡ decidedOf (driveOf work) (lostOf work (headAt (driveOf work) c)) c

@@ -2,6 +2,8 @@
 -- is given is said by the calls.
 -- Assumes nothing.
 use Prim.Native.Nat.{ℕ}
+use mathlib.Core.Bool.{cond}
+use lib.Dec.{eqb}
 use Rattle.chip.specs.declared.refusal.Refusal.{Refusal}
 use Rattle.chip.specs.declared.refusal.Refusal.the-variants.{Port, Turn, Line, Damaged, Head, Drive}
 
@@ -14,3 +16,8 @@ numberOf Line = 3
 numberOf Damaged = 4
 numberOf Head = 5
 numberOf Drive = 6
+
+-- and the refusal of a number, so that a call's promise says the number
+abbrev pub refusalNumbered : ℕ → Refusal
+refusalNumbered n =
+    cond (eqb n 1) Port (cond (eqb n 2) Turn (cond (eqb n 3) Line (cond (eqb n 4) Damaged (cond (eqb n 5) Head Drive))))

@@ -3,7 +3,6 @@
 -- Assumes nothing.
 use Prim.Native.Nat.{ℕ, _<_}
 use mathlib.Core.Bool.{Bool, true, _&&_}
-use mathlib.Core.List.{[]}
 use mathlib.Core.Path.{_≡_}
 use Rattle.chip.specs.Fifo.{frontOf, takenOf, givenOf}
 use Rattle.fdc.specs.declared.record.Controller.{Controller}

@@ -2,7 +2,7 @@
 -- says once it is over. A call is split here alone into "tick or not".
 -- Assumes nothing.
 use Prim.Native.Nat.{ℕ, _<_, _%_}
-use mathlib.Core.Bool.{Bool, Bool·beq, true, false}
+use mathlib.Core.Bool.{true, false}
 use mathlib.Core.List.{List, [], _∷_}
 use mathlib.Core.Logic.{inl, inr}
 use mathlib.Core.Path.{_≡_, refl, ap, _∙_}
@@ -21,7 +21,7 @@ use Rattle.demands.proofs.QuietLaws.{quiet-after}
 use Rattle.image.specs.declared.layout.Geometry.{Geometry}
 use Rattle.image.specs.declared.lent.Effect.the-variants.{Nothing}
 use Rattle.image.specs.Layout.{sameOf}
-use Rattle.image.proofs.TestLaws.{by-test}
+use Rattle.image.proofs.TestLaws.{by-test, beq-self}
 use lib.Dec.{eqb}
 use borrow.Author.Tests.{eq-eqb}
 use Rattle.chip.specs.declared.fifo.Fifo.{Fifo}
@@ -49,11 +49,7 @@ same-geometry g =
       eq-eqb (g .slots) (g .slots) refl,
       eq-eqb (g .n) (g .n) refl,
     )
-    (same (g .protect))
-  where
-    same : (t : Bool) → Bool·beq t t ≡ true
-    same true = refl
-    same false = refl
+    (beq-self (g .protect))
 
 -- a tick's step leaves the heads
 settled-heads : (then : Then) (fifo : Fifo) (c : Controller) → settledOf then fifo c .drives ≡ c .drives

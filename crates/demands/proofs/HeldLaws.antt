@@ -39,7 +39,6 @@ use Rattle.demands.proofs.RoundTripLaws.{
   stands-protect,
   left-of,
   stood,
-  round-trip-quiet,
   round-trip,
   quiet-write,
 }
@@ -173,10 +172,6 @@ sound-holds-quiet w m l later protect sound stays =
     once-holds (w .g) (cylinderOf w) (aimOf w m) (leftBy w) later (placeOf w m) (st .slot) (st .has) (st .place)
     (twins-protect protect (w .g) later _ _ (sound .once _ _))
     (rw (fin .mark) (good-some (w .transfer .deleted))) (own-id w m l) stays
-
-pub round-trip-sound-quiet : RoundTripSound Quiet
-round-trip-sound-quiet w done later protect sound stays =
-    round-trip-quiet w done later (λ m l. sound-holds-quiet w m l later protect sound (stays m l))
 
 pub held-at-once-quiet : HeldAtOnce Quiet
 held-at-once-quiet w sound m l =

@@ -2,7 +2,7 @@
 -- What a tick does to it is Step.
 -- Assumes nothing.
 use Prim.Native.Nat.{ℕ, _-_}
-use mathlib.Core.Bool.{true, false, _&&_, cond}
+use mathlib.Core.Bool.{Bool, true, false, _&&_, cond}
 use lib.Dec.{eqb, ltb}
 use Rattle.drive.specs.declared.Drive.{Drive}
 use Rattle.drive.specs.declared.Motion.{Motion}
@@ -63,3 +63,9 @@ abbrev pub waitOf : Motion → ℕ
 waitOf Still = 0
 waitOf (Seeking target steps wait) = wait
 waitOf (Recalibrating steps wait) = wait
+
+-- no Seek or Recalibrate is going on
+abbrev pub standsIn : Motion → Bool
+standsIn Still = true
+standsIn (Seeking target steps wait) = false
+standsIn (Recalibrating steps wait) = false

@@ -16,6 +16,7 @@ ghost use Rattle.drive.specs.Drive.{
   recalibrateOf,
   recalibrateSteps,
   waitOf,
+  standsIn,
 };
 ghost use Rattle.drive.specs.Step.{
   inward,
@@ -360,6 +361,14 @@ impl Drive {
         let motion = self.motion;
         motion_wait(motion)
     }
+
+    // No Seek or Recalibrate is going on.
+    pub fn stands(self) -> bool
+        ensures { λ r. ⌜ r ≡ standsIn (self .motion) ⌝ }
+    {
+        let motion = self.motion;
+        motion_stands(motion)
+    }
 }
 
 fn arrival(zero: bool) -> u8
@@ -380,5 +389,19 @@ fn motion_wait(motion: Motion) -> u16
             wait,
         } => wait,
         Motion::Recalibrating { steps: _, wait } => wait,
+    }
+}
+
+fn motion_stands(motion: Motion) -> bool
+    ensures { λ r. ⌜ r ≡ standsIn motion ⌝ }
+{
+    match motion {
+        Motion::Still => true,
+        Motion::Seeking {
+            target: _,
+            steps: _,
+            wait: _,
+        } => false,
+        Motion::Recalibrating { steps: _, wait: _ } => false,
     }
 }

@@ -49,7 +49,7 @@ use Rattle.sectors.specs.declared.work.Work.the-variants.{Identifying, Moving, 
 use Rattle.engine.specs.First.{writes, taskOf, movingOf, startOf, enteredOf, beginOf}
 use Rattle.sectors.specs.Follow.{freshAt, followedOf, followOf, turnOf}
 use Rattle.engine.specs.Format.{formatEnd, formsOf, formWait, formAwait, addressPut, addressOf, clearOn, formedOf, fillOf, clearOf, formOf}
-use Rattle.engine.specs.Kept.{suits, suited, jobFlow, thenWait, thenSuited, thenFlow, thenDrive, thenFifo, storePlace, Kept}
+use Rattle.engine.specs.Kept.{suits, suited, jobFlow, thenWait, thenFlow, thenDrive, thenFifo, storePlace, Kept}
 use Rattle.sectors.specs.Read.{overrun, lastByte, readOn, readOf, drainedOf, drainOf}
 use Rattle.engine.specs.ReadId.{noIdOf, noIdHere, idHere, identifiedOf, identifyOf}
 use Rattle.sectors.specs.Result.{endOf, moveEnd, moveFails, movesOf}
@@ -526,9 +526,6 @@ module _ (efifo : Bool) (f : Fifo) (ok : Bool) (flow : Flow) (drive : ℕ) (s : 
     (k : Kept efifo f ok flow drive s) (e : s .then ≡ Works w) where
   pub kept-wait : waitOf w ≤ 64
   kept-wait = omega (arith, k .wait, ap thenWait e)
-
-  pub kept-stage : ok ≡ true → suited w ≡ true
-  kept-stage o = sym (ap thenSuited e) ∙ k .stage o
 
   pub kept-flow : flowOf w ≡ flow
   kept-flow = sym (ap (thenFlow flow) e) ∙ k .way

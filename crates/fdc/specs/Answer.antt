@@ -1,7 +1,7 @@
 -- What a call answers: document 01, Refusals by number. Which call answers what is Calls.
 -- Assumes nothing.
 use Prim.Native.Nat.{ℕ}
-use Rattle.chip.specs.Refusals.{numberOf}
+use Rattle.chip.specs.Refusals.{numberOf, refusalNumbered}
 use Rattle.fdc.specs.declared.record.Controller.{Controller}
 use Rattle.fdc.specs.declared.answer.Reply.{Reply}
 use Rattle.fdc.specs.declared.answer.Reply.the-variants.{Done, Byte, Refused}
@@ -19,6 +19,10 @@ abbrev pub numberIn : Reply → ℕ
 numberIn Done = 0
 numberIn (Byte byte) = 0
 numberIn (Refused refusal) = numberOf refusal
+
+-- 01 Refusals: the refusal of this number, as a call's promise says it
+abbrev pub refused : ℕ → Reply
+refused n = Refused (refusalNumbered n)
 
 -- 01 Refusals: the lines are those of the record handed back
 unfoldable pub answerOf : Reply → Controller → Answer

@@ -3,14 +3,13 @@
 use Prim.Native.Nat.{ℕ, _%_}
 use mathlib.Core.Bool.{Bool, not, _&&_, cond}
 use lib.Dec.{eqb, leb}
-use Rattle.chip.specs.declared.refusal.Refusal.the-variants as refusal
 use Rattle.drive.specs.Drive.{notedOf}
 use Rattle.fdc.specs.declared.record.Controller.{Controller}
 use Rattle.fdc.specs.declared.answer.Answer.{Answer}
-use Rattle.fdc.specs.declared.answer.Reply.the-variants.{Done, Byte, Refused}
+use Rattle.fdc.specs.declared.answer.Reply.the-variants.{Done, Byte}
 use Rattle.fdc.specs.declared.ports.Port.{Port}
 use Rattle.fdc.specs.declared.ports.Port.the-variants.{None, Dor, Tdr, Status, Data, Input}
-use Rattle.fdc.specs.Answer.{answerOf}
+use Rattle.fdc.specs.Answer.{refused, answerOf}
 use Rattle.fdc.specs.Data.{readFifo, writeFifo, dmaReadOf, dmaWriteOf}
 use Rattle.fdc.specs.Record.{freshOf, validOf, driveAt, withDrive}
 use Rattle.fdc.specs.Registers.{msrOf, dirOf}
@@ -23,7 +22,7 @@ portOf n =
 
 -- 01 Registers: what a read of each shows
 unfoldable pub readReg : Port → Controller → Answer
-readReg None c = answerOf (Refused refusal.Port) c
+readReg None c = answerOf (refused 1) c
 readReg Dor c = answerOf (Byte (c .registers .dor)) c
 readReg Tdr c = answerOf (Byte (c .registers .tdr % 4)) c
 readReg Status c = answerOf (Byte (msrOf c)) c
@@ -32,7 +31,7 @@ readReg Input c = answerOf (Byte (dirOf c)) c
 
 -- 01 Registers: what a write to each does
 unfoldable pub writeReg : Port → ℕ → Controller → Answer
-writeReg None byte c = answerOf (Refused refusal.Port) c
+writeReg None byte c = answerOf (refused 1) c
 writeReg Dor byte c = answerOf Done (wroteDor byte c)
 writeReg Tdr byte c = answerOf Done (withTdr byte c)
 writeReg Status byte c = answerOf Done (wroteDsr byte c)
@@ -43,24 +42,24 @@ writeReg Input byte c = answerOf Done (withRate byte c)
 unfoldable pub powerOn : ℕ → ℕ → Answer
 powerOn head0 head1 =
     cond (leb head0 81 && leb head1 81) (answerOf Done (freshOf head0 head1))
-    (answerOf (Refused refusal.Head) (freshOf 0 0))
+    (answerOf (refused 5) (freshOf 0 0))
 
 -- 01 Refusals: order: 4, then the others; the record as handed in
 unfoldable pub readPort : ℕ → Controller → Answer
-readPort offset c = cond (validOf c) (readReg (portOf offset) c) (answerOf (Refused refusal.Damaged) c)
+readPort offset c = cond (validOf c) (readReg (portOf offset) c) (answerOf (refused 4) c)
 
 unfoldable pub writePort : ℕ → ℕ → Controller → Answer
-writePort offset byte c = cond (validOf c) (writeReg (portOf offset) byte c) (answerOf (Refused refusal.Damaged) c)
+writePort offset byte c = cond (validOf c) (writeReg (portOf offset) byte c) (answerOf (refused 4) c)
 
 unfoldable pub dmaRead : Bool → Controller → Answer
-dmaRead tc c = cond (validOf c) (dmaReadOf tc c) (answerOf (Refused refusal.Damaged) c)
+dmaRead tc c = cond (validOf c) (dmaReadOf tc c) (answerOf (refused 4) c)
 
 unfoldable pub dmaWrite : ℕ → Bool → Controller → Answer
-dmaWrite byte tc c = cond (validOf c) (dmaWriteOf byte tc c) (answerOf (Refused refusal.Damaged) c)
+dmaWrite byte tc c = cond (validOf c) (dmaWriteOf byte tc c) (answerOf (refused 4) c)
 
 -- 01 Calls: the note sets the change flag of drive 0 or 1 and does nothing else. 01 Refusals 6: a drive above 1
 unfoldable pub noteChange : ℕ → Controller → Answer
 noteChange drive c =
-    cond (not (validOf c)) (answerOf (Refused refusal.Damaged) c)
-    (cond (leb 2 drive) (answerOf (Refused refusal.Drive) c)
+    cond (not (validOf c)) (answerOf (refused 4) c)
+    (cond (leb 2 drive) (answerOf (refused 6) c)
     (answerOf Done (withDrive (drive % 4) (notedOf (driveAt (drive % 4) (c .drives))) c)))

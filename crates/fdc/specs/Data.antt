@@ -5,15 +5,14 @@ use mathlib.Core.Bool.{Bool, false, _&&_, cond}
 use mathlib.Core.List.{List, [], _∷_, _++_}
 use lib.Dec.{eqb, leb}
 use lib.ListN.{getD, drop}
-use Rattle.chip.specs.declared.refusal.Refusal.the-variants.{Turn, Line}
 use Rattle.chip.specs.Fifo.{frontOf, takenOf, givenOf}
 use Rattle.engine.specs.Step.{toHost, fromHost, flowOf, hearsTc}
 use Rattle.fdc.specs.declared.record.Phase.{Phase}
 use Rattle.fdc.specs.declared.record.Phase.the-variants.{Idle, Gathering, Starting, Working, Sensing, Answering}
 use Rattle.fdc.specs.declared.record.Controller.{Controller}
 use Rattle.fdc.specs.declared.answer.Answer.{Answer}
-use Rattle.fdc.specs.declared.answer.Reply.the-variants.{Done, Byte, Refused}
-use Rattle.fdc.specs.Answer.{answerOf}
+use Rattle.fdc.specs.declared.answer.Reply.the-variants.{Done, Byte}
+use Rattle.fdc.specs.Answer.{refused, answerOf}
 use Rattle.fdc.specs.Commands.{answeredOf, idledOf, gatheredOf, goesOn, begunOf}
 use Rattle.fdc.specs.Record.{withFifo}
 use Rattle.fdc.specs.Registers.{msrOf, drqOf}
@@ -28,16 +27,16 @@ resultTaken c =
 
 -- what the host reads, by phase: a result, or a byte of a non-DMA transfer
 unfoldable pub readIn : Phase → Controller → Answer
-readIn Idle c = answerOf (Refused Turn) c
-readIn (Gathering entry) c = answerOf (Refused Turn) c
-readIn (Starting order) c = answerOf (Refused Turn) c
+readIn Idle c = answerOf (refused 2) c
+readIn (Gathering entry) c = answerOf (refused 2) c
+readIn (Starting order) c = answerOf (refused 2) c
 readIn (Working work) c = answerOf (Byte (frontOf (c .fifo))) (withFifo (takenOf false (c .fifo)) c)
-readIn (Sensing unit) c = answerOf (Refused Turn) c
+readIn (Sensing unit) c = answerOf (refused 2) c
 readIn (Answering loud) c = answerOf (Byte (getD (c .bytes .results) 0 0)) (resultTaken c)
 
 -- 01 Refusals 2: RQM is 0 or DIO has the other direction. They are MSR's two upper bits
 unfoldable pub readFifo : Controller → Answer
-readFifo c = cond (eqb (msrOf c / 64) 3) (readIn (c .phase) c) (answerOf (Refused Turn) c)
+readFifo c = cond (eqb (msrOf c / 64) 3) (readIn (c .phase) c) (answerOf (refused 2) c)
 
 -- what a written byte does, by phase: a command byte, or a byte of a non-DMA transfer, which has no TC
 unfoldable pub offeredOf : Phase → ℕ → Controller → Controller
@@ -50,7 +49,7 @@ offeredOf (Answering loud) byte c = c
 
 unfoldable pub writeFifo : ℕ → Controller → Answer
 writeFifo byte c =
-    cond (eqb (msrOf c / 64) 2) (answerOf Done (offeredOf (c .phase) byte c)) (answerOf (Refused Turn) c)
+    cond (eqb (msrOf c / 64) 2) (answerOf Done (offeredOf (c .phase) byte c)) (answerOf (refused 2) c)
 
 abbrev pub phaseToHost : Phase → Bool
 phaseToHost Idle = false
@@ -81,11 +80,11 @@ unfoldable pub dmaReadOf : Bool → Controller → Answer
 dmaReadOf tc c =
     cond (drqOf c && phaseToHost (c .phase))
     (answerOf (Byte (frontOf (c .fifo))) (withFifo (takenOf tc (c .fifo)) c))
-    (answerOf (Refused Line) c)
+    (answerOf (refused 3) c)
 
 -- 01 Format: TC is ignored
 unfoldable pub dmaWriteOf : ℕ → Bool → Controller → Answer
 dmaWriteOf byte tc c =
     cond (drqOf c && phaseFromHost (c .phase))
     (answerOf Done (withFifo (givenOf (c .registers .efifo) (tc && phaseHears (c .phase)) byte (c .fifo)) c))
-    (answerOf (Refused Line) c)
+    (answerOf (refused 3) c)

@@ -6,8 +6,8 @@ use mathlib.Core.Bool.{Bool, true, false, _&&_, cond}
 use mathlib.Core.List.{List, [], _∷_}
 use lib.Dec.{eqb, ltb}
 use Rattle.chip.specs.declared.fifo.Fifo.{Fifo}
-use Rattle.chip.specs.declared.refusal.Refusal.the-variants.{Damaged}
 use Rattle.drive.specs.declared.Drive.{Drive}
+use Rattle.drive.specs.Drive.{standsIn}
 use Rattle.drive.specs.Step.{tickOf as tickDrive}
 use Rattle.sectors.specs.declared.order.Order.{Order}
 use Rattle.sectors.specs.declared.work.Step.{Step}
@@ -27,8 +27,8 @@ use Rattle.fdc.specs.declared.record.Controller.{Controller}
 use Rattle.fdc.specs.declared.ticks.Decision.{Decision}
 use Rattle.fdc.specs.declared.answer.Answer.{Answer}
 use Rattle.fdc.specs.declared.answer.Reply.{Reply}
-use Rattle.fdc.specs.declared.answer.Reply.the-variants.{Done, Refused}
-use Rattle.fdc.specs.Answer.{answerOf}
+use Rattle.fdc.specs.declared.answer.Reply.the-variants.{Done}
+use Rattle.fdc.specs.Answer.{refused, answerOf}
 use Rattle.fdc.specs.Commands.{answeredOf, saidOf, ticksOf}
 use Rattle.fdc.specs.Record.{driveAt, validOf, withDrives, withFifo, withPhase}
 use Rattle.fdc.specs.Registers.{heldIn, motorIn}
@@ -54,6 +54,13 @@ tickAll drives mounted0 mounted1 ticks =
     ∷ tickDrive 2 false ticks (driveAt 2 drives)
     ∷ tickDrive 3 false ticks (driveAt 3 drives)
     ∷ []
+
+-- no drive has a Seek or Recalibrate going on
+abbrev pub standsAt : ℕ → List Drive → Bool
+standsAt k drives = standsIn (driveAt k drives .motion)
+
+abbrev pub allStand : List Drive → Bool
+allStand drives = standsAt 0 drives && standsAt 1 drives && standsAt 2 drives && standsAt 3 drives
 
 unfoldable pub steppedOf : List ℕ → List ℕ → Controller → Controller
 steppedOf a b c =
@@ -123,7 +130,7 @@ unfoldable pub ruledOf : List ℕ → List ℕ → Controller → Decision
 ruledOf a b c = cond (validOf c) (decideOf a b c) (stillOf c)
 
 abbrev pub tickReply : Controller → Reply
-tickReply c = cond (validOf c) Done (Refused Damaged)
+tickReply c = cond (validOf c) Done (refused 4)
 
 unfoldable pub tickOf : List ℕ → List ℕ → Controller → Answer
 tickOf a b c = answerOf (tickReply c) (ruledOf a b c .controller)

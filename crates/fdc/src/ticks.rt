@@ -21,16 +21,17 @@ use image::lent::store;
 use sectors::order::Order;
 use sectors::work::Step;
 use sectors::work::Then;
-use sectors::work::Verdict;
 use sectors::work::Work;
 ghost use mathlib.Core.Path.{_≡_};
 ghost use mathlib.Core.Bool.{cond};
 ghost use Prim.Native.Nat.{_≤_};
+ghost use lib.ListN.{length};
 ghost use Rattle.fdc.specs.Ticks.{
   seenOf,
   presentIn,
   protectedIn,
   tickAll,
+  allStand,
   steppedOf,
   st3Of,
   sensedAt,
@@ -41,8 +42,6 @@ ghost use Rattle.fdc.specs.Ticks.{
   workOf,
   decideIn,
   decideOf,
-  ruledOf,
-  tickReply,
   tickOf,
   imageAfter,
 };
@@ -100,6 +99,17 @@ fn tick_all(drives: [Drive; 4], mounted0: bool, mounted1: bool, ticks: u16) -> [
     ]
 }
 
+pub fn all_stand(drives: [Drive; 4]) -> bool
+    ensures stand { λ r. ⌜ r ≡ allStand drives ⌝ }
+    ensures four { λ _. ⌜ length drives ≡ 4 ⌝ }
+{
+    let a = drives[0];
+    let b = drives[1];
+    let c = drives[2];
+    let d = drives[3];
+    a.stands() & b.stands() & c.stands() & d.stands()
+}
+
 fn weight(on: bool, value: u8) -> u8
     ensures { λ r. ⌜ r ≡ cond on value 0 ⌝ }
     ensures { λ r. ⌜ r ≤ value ⌝ }
@@ -116,10 +126,15 @@ fn st3(unit: u8, protect: bool, head: u8) -> u8
 }
 
 impl Controller {
+    // Drives that stand have no tick: no image is looked at for them.
     fn stepped(self, a: &[u8], b: &[u8]) -> Controller
         ensures { λ r. ⌜ r ≡ steppedOf (now (a .entry)) (now (b .entry)) self ⌝ }
     {
         let drives = self.drives;
+        let still = all_stand(drives);
+        if still {
+            return self;
+        }
         let mounted0 = present(seen(self.registers.dor, 0, a));
         let mounted1 = present(seen(self.registers.dor, 1, b));
         self.with_drives(tick_all(drives, mounted0, mounted1, step_ticks(self.registers.spec1)))
@@ -226,37 +241,20 @@ impl Controller {
         self.stepped(a, b).decide_in(phase, a, b)
     }
 
-    fn ruled<'a>(self, a: &'a [u8], b: &'a [u8]) -> Decision
-        ensures { λ r. ⌜ r ≡ ruledOf (now (a .entry)) (now (b .entry)) self ⌝ }
-    {
-        let valid = self.valid();
-        if valid {
-            return self.decide(a, b);
-        }
-        self.still()
-    }
-
-    fn reply(self) -> Reply
-        ensures { λ r. ⌜ r ≡ tickReply self ⌝ }
-    {
-        let valid = self.valid();
-        if valid {
-            return Reply::Done;
-        }
-        Reply::Refused(Refusal::Damaged)
-    }
-
     // One byte time, over the two images.
     pub fn tick(self, a: &mut [u8], b: &mut [u8]) -> Answer
         ensures answer { λ r. ⌜ r ≡ tickOf (now (a .entry)) (now (b .entry)) self ⌝ }
         ensures first { λ _. ⌜ now (a .exit) ≡ imageAfter 0 (now (a .entry)) (now (b .entry)) self (now (a .entry)) ⌝ }
         ensures second { λ _. ⌜ now (b .exit) ≡ imageAfter 1 (now (a .entry)) (now (b .entry)) self (now (b .entry)) ⌝ }
     {
-        let reply = self.reply();
-        let decision = self.ruled(a, b);
-        let effect = decision.effect;
-        let next = decision.controller;
-        store(decision.drive, effect, a, b);
-        next.answer(reply)
+        let valid = self.valid();
+        if valid {
+            let decision = self.decide(a, b);
+            let effect = decision.effect;
+            let next = decision.controller;
+            store(decision.drive, effect, a, b);
+            return next.answer(Reply::Done);
+        }
+        self.answer(Reply::Refused(Refusal::Damaged))
     }
 }

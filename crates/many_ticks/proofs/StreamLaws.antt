@@ -3,7 +3,7 @@
 -- Assumes nothing.
 use Prim.Native.Nat.{ℕ, zero, suc, _+_, _-_, _%_, _≤_, _<_}
 use native.Mathlib.Omega.{arith}
-use mathlib.Core.Bool.{Bool, true, false, not, _&&_, _||_, cond, Bool·beq, false≢true}
+use mathlib.Core.Bool.{Bool, true, false, not, _||_, cond, Bool·beq}
 use mathlib.Core.List.{List, []}
 use mathlib.Core.Path.{_≡_, refl, sym, _∙_, subst}
 use lib.Dec.{eqb, leb}
@@ -14,12 +14,9 @@ use Rattle.image.specs.declared.lent.Effect.the-variants.{Nothing, Store}
 use Rattle.image.specs.Disk.{diskIn}
 use Rattle.image.specs.Lent.{pickOf, storedAs}
 use Rattle.image.proofs.DiskLaws.{store-keeps-disk}
-use Rattle.image.proofs.TestLaws.{by-test, both}
+use Rattle.image.proofs.TestLaws.{by-test, both, beq-self, beq-true}
 use Rattle.chip.specs.declared.fifo.Fifo.{Fifo}
 use Rattle.chip.specs.Fifo.{capacityOf, fullOf, frontOf, filledOf, drawnOf}
-use Rattle.drive.specs.declared.Drive.{Drive}
-use Rattle.drive.specs.declared.Motion.{Motion}
-use Rattle.drive.specs.declared.Motion.the-variants.{Still, Seeking, Recalibrating}
 use Rattle.sectors.specs.declared.work.Sector.{Sector}
 use Rattle.sectors.specs.declared.work.Site.{Site}
 use Rattle.sectors.specs.declared.work.Stage.{Stage}
@@ -44,7 +41,8 @@ use Rattle.fdc.specs.Answer.{answerOf}
 use Rattle.fdc.specs.Record.{driveAt, withFifo, withPhase, validOf}
 use Rattle.fdc.specs.Registers.{heldIn, intOf, drqOf}
 use Rattle.fdc.specs.Ticks.{seenOf, settledOf, decidedOf, workOf, decideIn, decideOf, ruledOf, tickOf, imageAfter}
-use Rattle.fdc.proofs.StandLaws.{stepped-stands}
+use Rattle.fdc.specs.Ticks.{allStand}
+use Rattle.fdc.proofs.StandLaws.{all-still, stepped-stands}
 use Rattle.fdc.proofs.ValidLaws.{Valid, valid-true, true-valid}
 use Rattle.many_ticks.specs.declared.sector.Pace.{Pace}
 use Rattle.many_ticks.specs.Sector.{paceOf, readRests, readFill, readsOf}
@@ -54,43 +52,12 @@ use Rattle.many_ticks.proofs.SectorLaws.{not-true, neither, reads-left,
 use Rattle.many_ticks.specs.Run.{Ran, ranOf, ticked, changedIn, runOf, onwardOf, startOf}
 use Rattle.many_ticks.specs.declared.stream.Stream.{Stream}
 use Rattle.many_ticks.specs.declared.stream.Stream.the-variants.{Other, Reads, Stores}
-use Rattle.many_ticks.specs.Stream.{standsIn, standsAt, allStand, stageStream, workStream, phaseStream}
+use Rattle.many_ticks.specs.Stream.{stageStream, workStream, phaseStream}
 use Rattle.many_ticks.specs.Stream.{meetsOf, kept, restsOf, streamIn}
 
--- the four drives stand
-still-in : (motion : Motion) → standsIn motion ≡ true → motion ≡ Still
-still-in Still h = refl
-still-in (Seeking target steps wait) h = absurd (false≢true h)
-still-in (Recalibrating steps wait) h = absurd (false≢true h)
-
-all-still : (drives : List Drive) → allStand drives ≡ true → (k : ℕ) → k < 4 → driveAt k drives .motion ≡ Still
-all-still drives all k low =
-    let three = both (standsAt 0 drives && standsAt 1 drives && standsAt 2 drives) _ all in
-    let two = both (standsAt 0 drives && standsAt 1 drives) _ (three .0) in
-    let one = both (standsAt 0 drives) _ (two .0) in
-    at k low (still-in _ (one .0)) (still-in _ (one .1)) (still-in _ (two .1)) (still-in _ (three .1))
-  where
-    at : (k : ℕ) → k < 4 → driveAt 0 drives .motion ≡ Still → driveAt 1 drives .motion ≡ Still
-        → driveAt 2 drives .motion ≡ Still → driveAt 3 drives .motion ≡ Still → driveAt k drives .motion ≡ Still
-    at zero low a b c d = a
-    at (suc zero) low a b c d = b
-    at (suc (suc zero)) low a b c d = c
-    at (suc (suc (suc zero))) low a b c d = d
-    at (suc (suc (suc (suc k)))) low a b c d = absurd (omega arith)
-
 -- the lines as they are
-beq-same : (t : Bool) → Bool·beq t t ≡ true
-beq-same true = refl
-beq-same false = refl
-
-beq-true : (t u : Bool) → Bool·beq t u ≡ true → t ≡ u
-beq-true true true h = refl
-beq-true true false h = absurd (false≢true h)
-beq-true false true h = absurd (false≢true h)
-beq-true false false h = refl
-
 unchanged : (x : Answer) → changedIn x x ≡ false
-unchanged x = rw (beq-same (x .int), beq-same (x .drq))
+unchanged x = rw (beq-self (x .int), beq-self (x .drq))
 
 stay : (n : ℕ) (r : Ran) → runOf n r ≡ onwardOf (r .answer) n r
 stay n r = rw (unchanged (r .answer))

@@ -4,11 +4,10 @@
 use Prim.Native.Nat.{ℕ, zero, suc, _+_}
 use mathlib.Core.Bool.{Bool, not, _&&_, cond, Bool·beq}
 use mathlib.Core.List.{List}
-use Rattle.chip.specs.declared.refusal.Refusal.the-variants.{Damaged}
 use Rattle.fdc.specs.declared.answer.Answer.{Answer}
-use Rattle.fdc.specs.declared.answer.Reply.the-variants.{Done, Refused}
+use Rattle.fdc.specs.declared.answer.Reply.the-variants.{Done}
 use Rattle.fdc.specs.declared.record.Controller.{Controller}
-use Rattle.fdc.specs.Answer.{answerOf}
+use Rattle.fdc.specs.Answer.{refused, answerOf}
 use Rattle.fdc.specs.Record.{validOf}
 use Rattle.fdc.specs.Ticks.{tickOf, imageAfter}
 
@@ -52,7 +51,7 @@ startOf a b c = ranOf (answerOf Done c) 0 a b
 
 -- 01 Refusals 4: of a damaged record no tick is made
 abbrev pub refusedOf : List ℕ → List ℕ → Controller → Ran
-refusedOf a b c = ranOf (answerOf (Refused Damaged) c) 0 a b
+refusedOf a b c = ranOf (answerOf (refused 4) c) 0 a b
 
 unfoldable pub ticksOf : ℕ → List ℕ → List ℕ → Controller → Ran
 ticksOf n a b c = cond (validOf c) (runOf n (startOf a b c)) (refusedOf a b c)

@@ -2,12 +2,9 @@
 -- in reset, no drive moving, and the disk of its first tick there.
 -- Assumes nothing.
 use Prim.Native.Nat.{ℕ}
-use mathlib.Core.Bool.{Bool, true, false, not, _&&_, cond}
+use mathlib.Core.Bool.{Bool, not, _&&_, cond}
 use mathlib.Core.List.{List}
 use Rattle.image.specs.Lent.{pickOf}
-use Rattle.drive.specs.declared.Drive.{Drive}
-use Rattle.drive.specs.declared.Motion.{Motion}
-use Rattle.drive.specs.declared.Motion.the-variants.{Still, Seeking, Recalibrating}
 use Rattle.sectors.specs.declared.work.Site.{Site}
 use Rattle.sectors.specs.declared.work.Stage.{Stage}
 use Rattle.sectors.specs.declared.work.Stage.the-variants.{Searching, Turning, Reading, Draining, Awaiting, Storing}
@@ -18,22 +15,10 @@ use Rattle.sectors.specs.Track.{staysOf}
 use Rattle.fdc.specs.declared.record.Controller.{Controller}
 use Rattle.fdc.specs.declared.record.Phase.{Phase}
 use Rattle.fdc.specs.declared.record.Phase.the-variants.{Idle, Gathering, Starting, Working, Sensing, Answering}
-use Rattle.fdc.specs.Record.{driveAt}
 use Rattle.fdc.specs.Registers.{heldIn}
-use Rattle.fdc.specs.Ticks.{seenOf}
+use Rattle.fdc.specs.Ticks.{seenOf, allStand}
 use Rattle.many_ticks.specs.declared.stream.Stream.{Stream}
 use Rattle.many_ticks.specs.declared.stream.Stream.the-variants.{Other, Reads, Stores}
-
-abbrev pub standsIn : Motion → Bool
-standsIn Still = true
-standsIn (Seeking target steps wait) = false
-standsIn (Recalibrating steps wait) = false
-
-abbrev pub standsAt : ℕ → List Drive → Bool
-standsAt k drives = standsIn (driveAt k drives .motion)
-
-abbrev pub allStand : List Drive → Bool
-allStand drives = standsAt 0 drives && standsAt 1 drives && standsAt 2 drives && standsAt 3 drives
 
 abbrev pub stageStream : Site → Task → Stage → Stream
 stageStream site task (Searching look) = Other

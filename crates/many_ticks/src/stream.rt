@@ -1,10 +1,9 @@
 // Whether a sector's bytes pass, tick after tick, and nothing else moves.
-use drive::Drive;
-use drive::Motion;
 use fdc::lines::held;
 use fdc::lines::motor;
 use fdc::record::Controller;
 use fdc::record::Phase;
+use fdc::ticks::all_stand;
 use image::disk::disk_in;
 use image::layout::Geometry;
 use image::lent::pick;
@@ -19,8 +18,6 @@ ghost use lib.ListN.{length};
 ghost use Rattle.sectors.specs.Track.{staysOf};
 ghost use Rattle.fdc.specs.Ticks.{seenOf};
 ghost use Rattle.many_ticks.specs.Stream.{
-  standsIn,
-  allStand,
   stageStream,
   workStream,
   phaseStream,
@@ -35,35 +32,6 @@ pub enum Stream {
     Other,
     Reads(Site, Task, Sector, u16),
     Stores(Site, Task, u8, u16),
-}
-
-fn stands(motion: Motion) -> bool
-    ensures { λ r. ⌜ r ≡ standsIn motion ⌝ }
-{
-    match motion {
-        Motion::Still => true,
-        Motion::Seeking {
-            target,
-            steps,
-            wait,
-        } => false,
-        Motion::Recalibrating { steps, wait } => false,
-    }
-}
-
-fn all_stand(drives: [Drive; 4]) -> bool
-    ensures stand { λ r. ⌜ r ≡ allStand drives ⌝ }
-    ensures four { λ _. ⌜ length drives ≡ 4 ⌝ }
-{
-    let a = drives[0];
-    let b = drives[1];
-    let c = drives[2];
-    let d = drives[3];
-    let first = a.motion;
-    let second = b.motion;
-    let third = c.motion;
-    let fourth = d.motion;
-    stands(first) & stands(second) & stands(third) & stands(fourth)
 }
 
 // 01 Data commands: the disk of the first tick is in the drive, and its motor on.

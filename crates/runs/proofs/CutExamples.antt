@@ -2,7 +2,7 @@
 -- Assumes nothing.
 use Prim.Native.Nat.{ℕ, zero, suc}
 use mathlib.Core.Bool.{Bool, true, false}
-use mathlib.Core.List.{List, []}
+use mathlib.Core.List.{List}
 use mathlib.Core.Path.{_≡_, refl, ap, subst}
 use Rattle.image.specs.Disk.{headerIn, geometryIn, diskIn}
 use Rattle.image.specs.Layout.{sizeOf, trackLength, lengthOf}

@@ -10,7 +10,7 @@ use mathlib.Core.Path.{_≡_, refl, sym, _∙_}
 use lib.Dec.{leb}
 use lib.ListN.{length}
 use borrow.Author.Tests.{leb-true, le-leb}
-use Rattle.image.proofs.TestLaws.{both, le-or-lt}
+use Rattle.image.proofs.TestLaws.{both, beq-true, le-or-lt}
 use Rattle.image.specs.Disk.{headerIn, geometryIn, diskIn}
 use Rattle.image.specs.Examples.{disk, sample}
 use Rattle.image.specs.Layout.{sizeOf, trackLength, lengthOf, trackAt, offsetOf}
@@ -97,18 +97,12 @@ module _ (test : History → Bool) (P : History → Type 0) (means : (h : Histor
           let (off, says) = both (offAt call c) _ this in
           (off, says, rest)
 
-pub beq-same : (a b : Bool) → Bool·beq a b ≡ true → a ≡ b
-beq-same true true e = refl
-beq-same true false e = absurd (false≢true e)
-beq-same false true e = absurd (false≢true e)
-beq-same false false e = refl
-
 abbrev pub tellsTest : ℕ → History → Bool
 tellsTest bytes h = Bool·beq (h .told) (leb bytes (length (h .host)))
 
 pub tells-met : (bytes : ℕ) (h : History) → tellsTest bytes h ≡ true → Tells bytes h
 tells-met bytes h e =
-    let q = beq-same (h .told) (leb bytes (length (h .host))) e in
+    let q = beq-true (h .told) (leb bytes (length (h .host))) e in
     (λ x. leb-true _ _ (sym q ∙ x), λ l. q ∙ le-leb _ _ l)
 
 abbrev untoldTest : History → Bool

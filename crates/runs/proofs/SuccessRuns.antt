@@ -9,7 +9,7 @@ use mathlib.Core.Path.{_≡_, refl, sym, ap, _∙_}
 use lib.Dec.{leb}
 use lib.ListN.{length}
 use borrow.Author.Tests.{leb-true, le-leb}
-use Rattle.image.proofs.TestLaws.{both, le-or-lt}
+use Rattle.image.proofs.TestLaws.{both, beq-true, le-or-lt}
 use Rattle.image.specs.Examples.{disk}
 use Rattle.chip.specs.Next.{advancedOf}
 use Rattle.image.specs.Layout.{sizeOf, trackLength, trackAt, offsetOf}
@@ -36,7 +36,7 @@ use Rattle.runs.specs.Whole.{Outcome, askedBy, callsOf}
 use Rattle.runs.proofs.HandedExamples.{handed-examples}
 use Rattle.runs.proofs.Open.{allOpen}
 use Rattle.runs.proofs.PromptRuns.{long-run, prompt-runs}
-use Rattle.runs.proofs.SucceedsExamples.{beq-same, tellsTest, tells-met}
+use Rattle.runs.proofs.SucceedsExamples.{tellsTest, tells-met}
 use Rattle.runs.proofs.Tests.{not-off}
 
 -- TC by number, over the calls, as tests
@@ -73,7 +73,7 @@ tellsAt bytes t = Bool·beq (t .told) (leb bytes (length (t .got)))
 
 tells-at : (bytes : ℕ) (t : Taken) → tellsAt bytes t ≡ true → TellsAt bytes t
 tells-at bytes t e =
-    let q = beq-same (t .told) (leb bytes (length (t .got))) e in
+    let q = beq-true (t .told) (leb bytes (length (t .got))) e in
     (λ x. leb-true _ _ (sym q ∙ x), λ l. q ∙ le-leb _ _ l)
 
 abbrev untold : Taken → Bool

@@ -1,8 +1,8 @@
--- `many_ticks::stream::all_stand` meets its contract.
+-- `fdc::ticks::all_stand` meets its contract.
 -- Assumes nothing.
 use borrow.Author.Needs.{needs}
-use Rattle.many_ticks.proofs.stream.all_stand.Statement.{statement}
-use Rattle.many_ticks.proofs.stream.all_stand.Tie as tie
+use Rattle.fdc.proofs.ticks.all_stand.Statement.{statement}
+use Rattle.fdc.proofs.ticks.all_stand.Tie as tie
 
 pub all-stand-spec : {M : Type 1} → statement M
 all-stand-spec =
@@ -14,8 +14,7 @@ all-stand-spec =
       rw (
         c .before .before .before .stands .ensures,
         c .before .before .stands2 .ensures,
-        c .before .stands3
-            .ensures,
+        c .before .stands3 .ensures,
         c .stands4 .ensures,
       ),
       search needs,
