@@ -47,7 +47,7 @@ use Rattle.fdc.specs.Calls.{portOf, readReg, writeReg, powerOn, readPort
 use Rattle.fdc.specs.Commands.{answeredOf, saidOf, saidTwo, idledOf, commandByte, specifyOf, configureOf, sensingOf, reporterOf, sensedOf, soughtOf, recalibratedOf, startedOf, ranOf, runOf, heedsOf, gatheredOf, goesOn, begunOf}
 use Rattle.fdc.specs.Data.{resultTaken, readIn, readFifo, offeredOf, writeFifo, dmaReadOf, dmaWriteOf, phaseToHost, phaseFromHost, phaseHears}
 use Rattle.fdc.specs.Good.{Four, Suits, Good}
-use Rattle.fdc.specs.Record.{freshOf, driveAt, withRegisters, withDrives, withFifo, withBytes, withPhase, withDrive, phaseWait, validOf}
+use Rattle.fdc.specs.Record.{resultRoom, freshOf, driveAt, withRegisters, withDrives, withFifo, withBytes, withPhase, withDrive, phaseWait, validOf}
 use Rattle.fdc.specs.Registers.{heldIn, msrOf, drqOf, anyBusy}
 use Rattle.fdc.specs.Reset.{resetAll, resetOf, reportAll, releasedBy, releasedOf, withDor, withTdr, withRate, wroteDor, wroteDsr}
 use Rattle.fdc.specs.Runs.{Call, powers, reads, writes, takes, gives, ticks, notes, answerTo, after, runCalls, Reached}
@@ -116,12 +116,12 @@ record Ready (c : Controller) : Type 0 where
   drives : Four (c .drives)
   fifo : c .fifo ≡ emptied
   fifothr : c .registers .fifothr ≤ 15
-  left : c .bytes .left ≤ 7
+  left : c .bytes .left ≤ resultRoom
 
 fits-of : (efifo : Bool) (f : Fifo) → f ≡ emptied → Fits efifo f
 fits-of efifo f e = rw e (fits-emptied efifo)
 
-good-answered : (loud : Bool) (results : List ℕ) (left : ℕ) (c : Controller) → left ≤ 7 → Ready c
+good-answered : (loud : Bool) (results : List ℕ) (left : ℕ) (c : Controller) → left ≤ resultRoom → Ready c
     → Good (answeredOf loud results left c)
 unfolding answeredOf
 good-answered loud results left c h r = record {

@@ -2,6 +2,7 @@ pub mod AnswerLaws
 pub mod Examples
 pub mod GoodLaws
 pub mod MoveLaws
+pub mod PadLaws
 pub mod ResetLaws
 pub mod SeekLaws
 pub mod StandLaws

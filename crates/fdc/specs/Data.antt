@@ -2,7 +2,7 @@
 -- Assumes nothing.
 use Prim.Native.Nat.{ℕ, _-_, _/_}
 use mathlib.Core.Bool.{Bool, false, _&&_, cond}
-use mathlib.Core.List.{List, [], _∷_, _++_}
+use mathlib.Core.List.{List}
 use lib.Dec.{eqb, leb}
 use lib.ListN.{getD, drop}
 use Rattle.chip.specs.declared.refusal.Refusal.the-variants.{Turn, Line}
@@ -15,11 +15,11 @@ use Rattle.fdc.specs.declared.answer.Answer.{Answer}
 use Rattle.fdc.specs.declared.answer.Reply.the-variants.{Done, Byte, Refused}
 use Rattle.fdc.specs.Answer.{answerOf}
 use Rattle.fdc.specs.Commands.{answeredOf, idledOf, gatheredOf, goesOn, begunOf}
-use Rattle.fdc.specs.Record.{withFifo}
+use Rattle.fdc.specs.Record.{padded, withFifo}
 use Rattle.fdc.specs.Registers.{msrOf, drqOf}
 
 abbrev pub shifted : List ℕ → List ℕ
-shifted bytes = drop 1 bytes ++ (0 ∷ [])
+shifted bytes = padded (drop 1 bytes)
 
 -- a result byte is taken: the next is first, and after the last it is idle. INT goes off with the first one
 unfoldable pub resultTaken : Controller → Controller

@@ -2,10 +2,10 @@
 // bytes.
 use crate::answer::Answer;
 use crate::answer::Reply;
-use crate::lines::dma;
-use crate::record::Bytes;
 use crate::record::Controller;
 use crate::record::Phase;
+use crate::record::RESULTS;
+use crate::record::pad;
 use chip::refusal::Refusal;
 use engine::flow::Flow;
 use engine::flow::flow_of;
@@ -34,18 +34,10 @@ fn one_less(n: u8) -> u8
 }
 
 // The results behind the first, so that what is left is all that is held.
-fn shift(bytes: [u8; 7]) -> [u8; 7]
+fn shift(bytes: [u8; RESULTS]) -> [u8; RESULTS]
     ensures { λ r. ⌜ r ≡ shifted bytes ⌝ }
 {
-    [
-        bytes[1],
-        bytes[2],
-        bytes[3],
-        bytes[4],
-        bytes[5],
-        bytes[6],
-        0,
-    ]
+    pad(&bytes[1..])
 }
 
 fn to_host(flow: Flow) -> bool

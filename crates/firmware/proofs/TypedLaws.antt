@@ -8,7 +8,7 @@ use mathlib.Core.List.{List, [], _∷_}
 use mathlib.Core.Logic.{_⊎_, inl, inr}
 use mathlib.Core.Path.{_≡_, refl, _∙_}
 use lib.Dec.{eqb, leb, ltb}
-use lib.ListN.{length, set, length-set, length-append, length-drop}
+use lib.ListN.{length, set, length-set}
 use lib.Seq.{getD-set-same, getD-set-other}
 use Rattle.image.proofs.TestLaws.{by-test, le-or-lt}
 use Rattle.image.specs.Lent.{pickOf}
@@ -62,6 +62,7 @@ use Rattle.fdc.specs.Runs.{Call, powers, reads, writes, takes, gives, ticks, no
 use Rattle.fdc.specs.Ticks.{seenOf, tickAll, steppedOf, sensedAt, stillOf, settledOf, decidedOf, startOf, workOf}
 use Rattle.fdc.specs.Ticks.{decideIn, decideOf, ruledOf, tickOf}
 use Rattle.fdc.proofs.GoodLaws.{four-of}
+use Rattle.fdc.proofs.PadLaws.{length-shifted}
 use Rattle.fdc.proofs.ValidLaws.{Valid, valid-true, true-valid}
 use Rattle.pack.specs.Back.{DrivesFit, Typed}
 use Rattle.pack.specs.Bytes.{courseOf}
@@ -312,7 +313,7 @@ typed-read-in (Working work) c t = typed-fifo _ c (room-taken true false (c .fif
 typed-read-in (Sensing unit) c t = t
 typed-read-in (Answering loud) c t =
     by-test (leb (c .bytes .left) 1) Typed _ _ (λ _. typed-idled c t)
-    (λ _. typed-answered false _ _ c (simp (length-append, length-drop) (omega (arith, t .results))) t)
+    (λ _. typed-answered false _ _ c (length-shifted (c .bytes .results) (t .results)) t)
 
 typed-read-reg : (port : Port) (c : Controller) → Typed c → TypedAfter (readReg port c)
 unfolding readReg answerOf readFifo
