@@ -27,7 +27,7 @@ use Rattle.fdc.specs.Calls.{portOf, readReg, writeReg, powerOn, readPort, write
 use Rattle.fdc.specs.Commands.{answeredOf, saidOf, saidTwo, idledOf, specifyOf, configureOf, sensingOf, reporterOf}
 use Rattle.fdc.specs.Commands.{sensedOf, soughtOf, recalibratedOf, moveOrder, formatOrder, identifyOrder, startedOf}
 use Rattle.fdc.specs.Commands.{ranOf, runOf, gatheredOf, goesOn, begunOf}
-use Rattle.fdc.specs.Data.{resultTaken, readIn, readFifo, offeredOf, writeFifo, dmaReadOf, dmaWriteOf}
+use Rattle.fdc.specs.Data.{resultTaken, readIn, readFifo, offeredOf, writeFifo, movedOf, cycleOf, dmaReadOf, dmaWriteOf}
 use Rattle.fdc.specs.Record.{freshOf, withRegisters, withDrives, withFifo, withBytes, withPhase, withDrive, validOf}
 use Rattle.fdc.specs.Registers.{motorIn, busyBits, anyBusy, pendingIn, msrOf, intOf, drqOf, dirOf}
 use Rattle.fdc.specs.Reset.{resetAll, resetOf, reportAll, releasedBy, releasedOf, withDor, withTdr, withRate}
@@ -60,7 +60,8 @@ unfolding headerIn geometryIn diskIn sizeOf trackLength lengthOf trackAt offsetO
     hasTrack staysOf markPlace dataPlace underrun awaitOf putOf dryOf writtenOf storeOf answerOf portOf readReg
     writeReg powerOn readPort writePort dmaRead dmaWrite noteChange answeredOf saidOf saidTwo idledOf specifyOf
     configureOf sensingOf reporterOf sensedOf soughtOf recalibratedOf moveOrder formatOrder identifyOrder startedOf
-    ranOf runOf gatheredOf goesOn begunOf resultTaken readIn readFifo offeredOf writeFifo dmaReadOf dmaWriteOf
+    ranOf runOf gatheredOf goesOn begunOf resultTaken readIn readFifo offeredOf writeFifo movedOf cycleOf
+    dmaReadOf dmaWriteOf
     freshOf withRegisters withDrives withFifo withBytes withPhase withDrive validOf motorIn busyBits anyBusy
     pendingIn msrOf intOf drqOf dirOf resetAll resetOf reportAll releasedBy releasedOf withDor withTdr withRate
     wroteDor wroteDsr answerTo runCalls seenOf tickAll steppedOf st3Of sensedAt stillOf settledOf decidedOf

@@ -22,7 +22,7 @@ use Rattle.sectors.specs.Write.{underrun, awaitOf, putOf, dryOf, writtenOf, sto
 use Rattle.fdc.specs.Answer.{answerOf}
 use Rattle.fdc.specs.Calls.{portOf, readReg, writeReg, powerOn, readPort, writePort, dmaRead, dmaWrite, noteChange}
 use Rattle.fdc.specs.Commands.{answeredOf, saidOf, saidTwo, idledOf, specifyOf, configureOf, sensingOf, reporterOf, sensedOf, soughtOf, recalibratedOf, moveOrder, formatOrder, identifyOrder, startedOf, ranOf, runOf, gatheredOf, goesOn, begunOf}
-use Rattle.fdc.specs.Data.{resultTaken, readIn, readFifo, offeredOf, writeFifo, dmaReadOf, dmaWriteOf}
+use Rattle.fdc.specs.Data.{resultTaken, readIn, readFifo, offeredOf, writeFifo, movedOf, cycleOf, dmaReadOf, dmaWriteOf}
 use Rattle.fdc.specs.Record.{freshOf, withRegisters, withDrives, withFifo, withBytes, withPhase, withDrive, validOf}
 use Rattle.fdc.specs.Registers.{motorIn, busyBits, anyBusy, pendingIn, msrOf, intOf, drqOf, dirOf}
 use Rattle.fdc.specs.Reset.{resetAll, resetOf, reportAll, releasedBy, releasedOf, withDor, withTdr, withRate, wroteDor, wroteDsr}
@@ -39,7 +39,8 @@ unfolding headerIn geometryIn diskIn sizeOf trackLength lengthOf trackAt offsetO
     hasTrack staysOf markPlace dataPlace underrun awaitOf putOf dryOf writtenOf storeOf answerOf portOf readReg
     writeReg powerOn readPort writePort dmaRead dmaWrite noteChange answeredOf saidOf saidTwo idledOf specifyOf
     configureOf sensingOf reporterOf sensedOf soughtOf recalibratedOf moveOrder formatOrder identifyOrder startedOf
-    ranOf runOf gatheredOf goesOn begunOf resultTaken readIn readFifo offeredOf writeFifo dmaReadOf dmaWriteOf
+    ranOf runOf gatheredOf goesOn begunOf resultTaken readIn readFifo offeredOf writeFifo movedOf cycleOf
+    dmaReadOf dmaWriteOf
     freshOf withRegisters withDrives withFifo withBytes withPhase withDrive validOf motorIn busyBits anyBusy
     pendingIn msrOf intOf drqOf dirOf resetAll resetOf reportAll releasedBy releasedOf withDor withTdr withRate
     wroteDor wroteDsr answerTo runCalls seenOf tickAll steppedOf st3Of sensedAt stillOf settledOf decidedOf

@@ -52,6 +52,7 @@ use Rattle.fdc.specs.Registers.{heldIn, msrOf, drqOf, anyBusy}
 use Rattle.fdc.specs.Reset.{resetAll, resetOf, reportAll, releasedBy, releasedOf, withDor, withTdr, withRate, wroteDor, wroteDsr}
 use Rattle.fdc.specs.Runs.{Call, powers, reads, writes, takes, gives, ticks, notes, answerTo, after, runCalls, Reached}
 use Rattle.fdc.specs.Ticks.{seenOf, tickAll, steppedOf, sensedAt, stillOf, settledOf, decidedOf, startOf, workOf, decideIn, decideOf, ruledOf, tickOf}
+use Rattle.fdc.proofs.DmaLaws.{dma-read-is, dma-write-is}
 use Rattle.fdc.proofs.ValidLaws.{valid-true}
 
 pub four-of : (a b c d : Drive) → Within a → Within b → Within c → Within d → Four (a ∷ b ∷ c ∷ d ∷ [])
@@ -391,20 +392,22 @@ from-host-works (Sensing unit) h = absurd (false≢true h)
 from-host-works (Answering loud) h = absurd (false≢true h)
 
 good-dma-read : (tc : Bool) (c : Controller) → Good c → GoodAfter (dmaReadOf tc c)
-unfolding dmaReadOf answerOf
+unfolding answerOf
 good-dma-read tc c g =
-    by-test (drqOf c && phaseToHost (c .phase)) GoodAfter _ _
+    rw (dma-read-is tc c)
+    (by-test (drqOf c && phaseToHost (c .phase)) GoodAfter _ _
     (λ t. let (work, e) = to-host-works (c .phase) (both (drqOf c) (phaseToHost (c .phase)) t .1) in
     good-fifo _ c work e (fits-taken (c .registers .efifo) tc (c .fifo) (g .fifo)) g)
-    (λ _. g)
+    (λ _. g))
 
 good-dma-write : (byte : ℕ) (tc : Bool) (c : Controller) → Good c → GoodAfter (dmaWriteOf byte tc c)
-unfolding dmaWriteOf answerOf
+unfolding answerOf
 good-dma-write byte tc c g =
-    by-test (drqOf c && phaseFromHost (c .phase)) GoodAfter _ _
+    rw (dma-write-is byte tc c)
+    (by-test (drqOf c && phaseFromHost (c .phase)) GoodAfter _ _
     (λ t. let (work, e) = from-host-works (c .phase) (both (drqOf c) (phaseFromHost (c .phase)) t .1) in
     good-fifo _ c work e (fits-given (c .registers .efifo) (tc && phaseHears (c .phase)) byte (c .fifo) (g .fifo)) g)
-    (λ _. g)
+    (λ _. g))
 
 -- the tick
 good-stepped : (a b : List ℕ) (c : Controller) → Good c → Good (steppedOf a b c)

@@ -1,4 +1,5 @@
 pub mod AnswerLaws
+pub mod DmaLaws
 pub mod Examples
 pub mod GoodLaws
 pub mod MoveLaws

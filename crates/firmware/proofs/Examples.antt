@@ -25,7 +25,7 @@ use Rattle.fdc.specs.Answer.{answerOf}
 use Rattle.fdc.specs.Calls.{portOf, writeReg, powerOn, writePort, dmaWrite}
 use Rattle.fdc.specs.Commands.{answeredOf, idledOf, specifyOf, moveOrder, startedOf, ranOf, runOf, gatheredOf, goesOn}
 use Rattle.fdc.specs.Commands.{begunOf}
-use Rattle.fdc.specs.Data.{offeredOf, writeFifo, dmaWriteOf}
+use Rattle.fdc.specs.Data.{offeredOf, writeFifo, movedOf, cycleOf, dmaWriteOf}
 use Rattle.fdc.specs.Record.{freshOf, withRegisters, withDrives, withFifo, withBytes, withPhase, withDrive, validOf}
 use Rattle.fdc.specs.Registers.{motorIn, busyBits, anyBusy, pendingIn, msrOf, intOf, drqOf}
 use Rattle.fdc.specs.Reset.{resetAll, resetOf, reportAll, releasedBy, releasedOf, withDor, wroteDor}
@@ -88,7 +88,8 @@ unfolding headerIn geometryIn diskIn sizeOf trackLength lengthOf trackAt offsetO
     withDor wroteDor answerTo runCalls openedOf givenOf drawnOf advancedOf nextOf tickIn tickOf gateOf givenId
     movingOf startOf enteredOf beginOf followedOf followOf endOf moveEnd moveFails notFound missedOf dataFound
     lookedOf searchOf lostOf stageOf workOf goOnOf hasTrack staysOf markPlace dataPlace underrun awaitOf putOf dryOf
-    writtenOf storeOf dmaWrite dmaWriteOf motorIn pendingIn intOf drqOf seenOf tickAll steppedOf stillOf settledOf
+    writtenOf storeOf dmaWrite movedOf cycleOf dmaWriteOf motorIn pendingIn intOf drqOf seenOf tickAll steppedOf
+    stillOf settledOf
     decidedOf fdc·startOf fdc·workOf decideIn decideOf ruledOf fdc·tickOf imageAfter imageLeft Its wordIn worldLeft
     firstAfter secondAfter callsIn boxLeft callsMade ticksFrom ticksMade lastOf wordBy Stays storesOf
 examples =
