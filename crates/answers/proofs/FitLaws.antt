@@ -56,10 +56,10 @@ use Rattle.fdc.specs.Calls.{portOf, readReg, writeReg, powerOn, readPort, write
 use Rattle.fdc.specs.Commands.{answeredOf, saidOf, saidTwo, idledOf, commandByte, specifyOf, configureOf, sensingOf}
 use Rattle.fdc.specs.Commands.{reporterOf, sensedOf, soughtOf, recalibratedOf, startedOf, ranOf, runOf, heedsOf}
 use Rattle.fdc.specs.Commands.{gatheredOf, goesOn, begunOf}
-use Rattle.fdc.specs.Data.{resultTaken, readIn, readFifo, offeredOf, writeFifo, dmaReadOf, dmaWriteOf, phaseToHost}
-use Rattle.fdc.specs.Data.{phaseFromHost}
+use Rattle.fdc.specs.Data.{resultTaken, readIn, readFifo, offeredOf, writeFifo, phaseToHost, phaseFromHost}
 use Rattle.fdc.specs.Record.{freshOf, driveAt, withRegisters, withDrives, withFifo, withBytes, withPhase, withDrive}
 use Rattle.fdc.specs.Record.{validOf}
+use Rattle.fdc.proofs.DmaLaws.{dma-read-is, dma-write-is}
 use Rattle.fdc.specs.Registers.{heldIn, motorIn, msrOf, drqOf, anyBusy}
 use Rattle.fdc.specs.Reset.{resetOf, releasedBy, releasedOf, withDor, withTdr, withRate, wroteDor, wroteDsr}
 use Rattle.reached.specs.Runs.{Call, powers, reads, writes, takes, gives, ticks, notes, answerTo, after, runCalls}
@@ -360,17 +360,21 @@ fit-power head0 head1 =
     (λ _. record { room = refl; phase = tt; left = tt })
 
 pub fit-after : (call : Call) (c : Controller) → Quiet c → Fit c → Fit (after call c)
-unfolding answerTo readPort writePort dmaRead dmaReadOf dmaWrite dmaWriteOf tickOf noteChange withDrive answerOf
+unfolding answerTo readPort writePort dmaRead dmaWrite tickOf noteChange withDrive answerOf
 fit-after (powers head0 head1) c q f = fit-power head0 head1
 fit-after (reads offset) c q f = by-test (validOf c) FitAfter _ _ (λ _. fit-read-reg (portOf offset) c f) (λ _. f)
 fit-after (writes offset byte) c q f =
     by-test (validOf c) FitAfter _ _ (λ _. fit-write-reg (portOf offset) byte c f) (λ _. f)
 fit-after (takes tc) c q f =
     by-test (validOf c) FitAfter _ _
-    (λ _. by-test (drqOf c && phaseToHost (c .phase)) FitAfter _ _ (λ _. fit-fifo _ c f) (λ _. f)) (λ _. f)
+    (λ _. rw (dma-read-is tc c)
+    (by-test (drqOf c && phaseToHost (c .phase)) FitAfter _ _ (λ _. fit-fifo _ c f) (λ _. f)))
+    (λ _. f)
 fit-after (gives byte tc) c q f =
     by-test (validOf c) FitAfter _ _
-    (λ _. by-test (drqOf c && phaseFromHost (c .phase)) FitAfter _ _ (λ _. fit-fifo _ c f) (λ _. f)) (λ _. f)
+    (λ _. rw (dma-write-is byte tc c)
+    (by-test (drqOf c && phaseFromHost (c .phase)) FitAfter _ _ (λ _. fit-fifo _ c f) (λ _. f)))
+    (λ _. f)
 fit-after (ticks a b) c q f = fit-ruled a b c q f
 fit-after (notes drive) c q f =
     by-test (not (validOf c)) FitAfter _ _ (λ _. f)

@@ -6,7 +6,7 @@ use mathlib.Core.Bool.{Bool, true, false, false≢true}
 use mathlib.Core.List.{List, [], _∷_, _++_}
 use mathlib.Core.Logic.{_⊎_, inl, inr, _↔_}
 use mathlib.Core.Path.{_≡_, refl, sym, _∙_, ap}
-use lib.ListN.{getD}
+use lib.ListN.{length, getD, replicate}
 use borrow.Author.Tests.{eqb-false, eq-eqb, le-leb, lt-leb}
 use Rattle.image.proofs.TestLaws.{le-or-lt}
 use Rattle.fdc.specs.declared.answer.Answer.{Answer}
@@ -18,7 +18,7 @@ use Rattle.fdc.specs.Answer.{answerOf}
 use Rattle.fdc.specs.Calls.{portOf, readReg, readPort}
 use Rattle.fdc.specs.Commands.{answeredOf, idledOf}
 use Rattle.fdc.specs.Data.{shifted, resultTaken, readIn, readFifo}
-use Rattle.fdc.specs.Record.{noBytes}
+use Rattle.fdc.specs.Record.{resultRoom, noBytes}
 use Rattle.fdc.specs.Registers.{heldIn, dmaIn, phaseStatus, msrOf, loudIn, phaseAsks, intOf}
 use Rattle.reached.specs.Runs.{reads, answerTo, after, runCalls}
 use Rattle.fdc.proofs.ValidLaws.{valid-true, true-valid}
@@ -85,16 +85,19 @@ answered-undamaged c l m u h =
     }))
 
 -- the bytes that a read leaves are those behind the first
-append-zero : (l : List ℕ) (j : ℕ) → getD (l ++ (0 ∷ [])) j 0 ≡ getD l j 0
-append-zero [] zero = refl
-append-zero [] (suc j) = refl
-append-zero (x ∷ l) zero = refl
-append-zero (x ∷ l) (suc j) = append-zero l j
+zeros-at : (n j : ℕ) → getD (replicate n 0) j 0 ≡ 0
+zeros-at zero j = refl
+zeros-at (suc n) zero = refl
+zeros-at (suc n) (suc j) = zeros-at n j
+
+append-zeros : (l : List ℕ) (n j : ℕ) → getD (l ++ replicate n 0) j 0 ≡ getD l j 0
+append-zeros [] n j = zeros-at n j
+append-zeros (x ∷ l) n zero = refl
+append-zeros (x ∷ l) n (suc j) = append-zeros l n j
 
 shifted-at : (l : List ℕ) (j : ℕ) → getD (shifted l) j 0 ≡ getD l (suc j) 0
-shifted-at [] zero = refl
-shifted-at [] (suc j) = refl
-shifted-at (x ∷ l) j = append-zero l j
+shifted-at [] j = zeros-at resultRoom j
+shifted-at (x ∷ l) j = append-zeros l (resultRoom - length l) j
 
 abbrev stillLoud : ℕ → Bool → Bool
 stillLoud zero loud = loud

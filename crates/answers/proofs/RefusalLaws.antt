@@ -34,6 +34,7 @@ use Rattle.fdc.specs.Registers.{bit, busyBits, flowStatus, phaseStatus, dmaIn, 
 use Rattle.fdc.specs.Registers.{msrOf, intOf, drqOf}
 use Rattle.reached.specs.Runs.{Call, powers, reads, writes, takes, gives, ticks, notes, answerTo, after}
 use Rattle.fdc.specs.Ticks.{stillOf, ruledOf, tickOf, imageAfter}
+use Rattle.fdc.proofs.DmaLaws.{dma-read-is, dma-write-is}
 use Rattle.fdc.proofs.ValidLaws.{valid-true, true-valid}
 use Rattle.answers.specs.Refusals.{Fault, fifo-above, command-above, results-above, head-above, fifothr-above}
 use Rattle.answers.specs.Refusals.{wait-above, countdown-above, Damaged, NoPort, OutOfTurn}
@@ -354,25 +355,25 @@ module _ (c : Controller) where
         )) refl)))))
 
     told-take : (tc : Bool) → Told (takes tc) c (dmaReadOf tc c)
-    unfolding dmaReadOf
     told-take tc =
-        by-test (drqOf c && phaseToHost (c .phase)) (Told (takes tc) c) _ _
+        rw (dma-read-is tc c)
+        (by-test (drqOf c && phaseToHost (c .phase)) (Told (takes tc) c) _ _
         (λ e. passed sane
         (λ n r. on-line (drqOf c) (phaseToHost (c .phase)) (phaseFromHost (c .phase)) (way c) e (r .1))
         _ _ refl (λ z. absurd z) refl)
         (λ e. refused sane refusal.Line
-        (refl, off-line (drqOf c) (phaseToHost (c .phase)) (phaseFromHost (c .phase)) (way c) e) refl)
+        (refl, off-line (drqOf c) (phaseToHost (c .phase)) (phaseFromHost (c .phase)) (way c) e) refl))
 
     told-give : (byte : ℕ) (tc : Bool) → Told (gives byte tc) c (dmaWriteOf byte tc c)
-    unfolding dmaWriteOf
     told-give byte tc =
         let away : drqOf c ≡ true → phaseFromHost (c .phase) ≡ not (phaseToHost (c .phase))
         = λ t. back (phaseToHost (c .phase)) (phaseFromHost (c .phase)) (way c t) in
-        by-test (drqOf c && phaseFromHost (c .phase)) (Told (gives byte tc) c) _ _
+        rw (dma-write-is byte tc c)
+        (by-test (drqOf c && phaseFromHost (c .phase)) (Told (gives byte tc) c) _ _
         (λ e. passed sane (λ n r. on-line (drqOf c) (phaseFromHost (c .phase)) (phaseToHost (c .phase)) away e (r .1))
         _ _ refl (λ _. refl) refl)
         (λ e. refused sane refusal.Line
-        (refl, off-line (drqOf c) (phaseFromHost (c .phase)) (phaseToHost (c .phase)) away e) refl)
+        (refl, off-line (drqOf c) (phaseFromHost (c .phase)) (phaseToHost (c .phase)) away e) refl))
 
   told : (call : Call) → Told call c (answerTo call c)
   unfolding answerTo powerOn readPort writePort dmaRead dmaWrite tickOf ruledOf stillOf noteChange

@@ -58,6 +58,7 @@ use Rattle.fdc.specs.Registers.{
 use Rattle.fdc.specs.Reset.{resetOf, releasedBy, releasedOf, withDor, withTdr, withRate, wroteDor, wroteDsr}
 use Rattle.reached.specs.Runs.{Call, powers, reads, writes, takes, gives, ticks, notes, answerTo, after}
 use Rattle.fdc.specs.Ticks.{seenOf, decidedOf, startOf, workOf, decideIn, decideOf, ruledOf, tickOf}
+use Rattle.fdc.proofs.DmaLaws.{dma-read-is, dma-write-is}
 use Rattle.reached.proofs.GoodLaws.{good-valid}
 use Rattle.demands.specs.HandedOver.{Taken, tookOne, tookBy, takenBy}
 use Rattle.demands.specs.History.{History, handed, taken, historyBy}
@@ -388,11 +389,12 @@ module _ (offset byte : ℕ) (c : Controller) (q : Quiet c) (w : atWork (c .phas
 -- the DMA cycles
 module _ (c : Controller) (q : Quiet c) (w : atWork (c .phase) ≡ true) where
   left-takes : (tc : Bool) → Left (takes tc) c (dmaReadOf tc c)
-  unfolding dmaReadOf answerOf historyBy
+  unfolding answerOf historyBy
   left-takes tc =
-      by-test (drqOf c && phaseToHost (c .phase)) (Left (takes tc) c) _ _
+      rw (dma-read-is tc c)
+      (by-test (drqOf c && phaseToHost (c .phase)) (Left (takes tc) c) _ _
       (λ t. left-took (takes tc) c (λ h. refl) tc tt (both (drqOf c) (phaseToHost (c .phase)) t .1))
-      (λ _. left-same (takes tc) c (λ h. refl))
+      (λ _. left-same (takes tc) c (λ h. refl)))
 
   gives-answered : (byte : ℕ) (tc : Bool) → answerTo (gives byte tc) c ≡ dmaWriteOf byte tc c
   unfolding answerTo dmaWrite
@@ -400,22 +402,23 @@ module _ (c : Controller) (q : Quiet c) (w : atWork (c .phase) ≡ true) where
 
   gives-refused : (byte : ℕ) (tc : Bool) → (drqOf c && phaseFromHost (c .phase)) ≡ false → (h : History)
       → historyBy (gives byte tc) c h ≡ h
-  unfolding historyBy dmaWriteOf answerOf
-  gives-refused byte tc f h = simp (gives-answered byte tc, f)
+  unfolding historyBy answerOf
+  gives-refused byte tc f h = simp (gives-answered byte tc, dma-write-is byte tc c, f)
 
   gives-done : (byte : ℕ) (tc : Bool) → (drqOf c && phaseFromHost (c .phase)) ≡ true → (h : History)
       → historyBy (gives byte tc) c h ≡ handed byte tc h
-  unfolding historyBy dmaWriteOf answerOf
-  gives-done byte tc t h = simp (gives-answered byte tc, t)
+  unfolding historyBy answerOf
+  gives-done byte tc t h = simp (gives-answered byte tc, dma-write-is byte tc c, t)
 
   left-gives : (byte : ℕ) (tc : Bool) → Left (gives byte tc) c (dmaWriteOf byte tc c)
-  unfolding dmaWriteOf answerOf withFifo
+  unfolding answerOf withFifo
   left-gives byte tc =
-      by-test (drqOf c && phaseFromHost (c .phase)) (Left (gives byte tc) c) _ _
+      rw (dma-write-is byte tc c)
+      (by-test (drqOf c && phaseFromHost (c .phase)) (Left (gives byte tc) c) _ _
       (λ t. let (line, from) = both (drqOf c) (phaseFromHost (c .phase)) t in
       on (record { phase = refl; heads = λ k h. refl; efifo = refl; fifothr = refl })
       (gave byte tc from (drq-asks c q w line (inl from)) refl (gives-done byte tc t)))
-      (λ f. left-same (gives byte tc) c (gives-refused byte tc f))
+      (λ f. left-same (gives byte tc) c (gives-refused byte tc f)))
 
 -- the disk-change note
 left-notes : (drive k : ℕ) (c : Controller) → length (c .drives) ≡ 4
@@ -495,13 +498,13 @@ data TakeRule (tc : Bool) (c : Controller) (a : Answer) : Type 0 where
 
 module _ (c : Controller) (q : Quiet c) (w : atWork (c .phase) ≡ true) where
   takes-hands : (tc : Bool) → TakeRule tc c (answerTo (takes tc) c)
-  unfolding answerTo dmaRead dmaReadOf answerOf withFifo
+  unfolding answerTo dmaRead answerOf withFifo
   takes-hands tc =
       by-test (validOf c) (TakeRule tc c) _ _
-      (λ _. by-test (drqOf c && phaseToHost (c .phase)) (TakeRule tc c) _ _
+      (λ _. rw (dma-read-is tc c) (by-test (drqOf c && phaseToHost (c .phase)) (TakeRule tc c) _ _
       (λ t. let (line, to) = both (drqOf c) (phaseToHost (c .phase)) t in
       hands to (drq-asks c q w line (inr to)) refl (λ t. refl))
-      (λ _. withholds refl (λ t. refl)))
+      (λ _. withholds refl (λ t. refl))))
       (λ _. withholds refl (λ t. refl))
 
   read-hands : TakeRule false c (readReg Data c)

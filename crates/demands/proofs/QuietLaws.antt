@@ -150,6 +150,7 @@ use Rattle.fdc.specs.Ticks.{
 }
 use Rattle.reached.specs.Good.{Good}
 use Rattle.chip.proofs.FifoLaws.{fits-emptied}
+use Rattle.fdc.proofs.DmaLaws.{dma-read-is, dma-write-is}
 use Rattle.reached.proofs.GoodLaws.{four-of, good-power-on, good-after}
 use Rattle.fdc.proofs.ValidLaws.{Valid, true-valid}
 use Rattle.reached.proofs.MoveLaws.{reporter-reports}
@@ -627,14 +628,16 @@ tame-write-fifo byte c b g t =
     (λ _. t)
 
 tame-dma-read : (tc : Bool) (c : Controller) → Tame c → TameAfter (dmaReadOf tc c)
-unfolding dmaReadOf answerOf
+unfolding answerOf
 tame-dma-read tc c t =
-    by-test (drqOf c && phaseToHost (c .phase)) TameAfter _ _ (λ _. tame-fifo _ c t) (λ _. t)
+    rw (dma-read-is tc c)
+    (by-test (drqOf c && phaseToHost (c .phase)) TameAfter _ _ (λ _. tame-fifo _ c t) (λ _. t))
 
 tame-dma-write : (byte : ℕ) (tc : Bool) (c : Controller) → Tame c → TameAfter (dmaWriteOf byte tc c)
-unfolding dmaWriteOf answerOf
+unfolding answerOf
 tame-dma-write byte tc c t =
-    by-test (drqOf c && phaseFromHost (c .phase)) TameAfter _ _ (λ _. tame-fifo _ c t) (λ _. t)
+    rw (dma-write-is byte tc c)
+    (by-test (drqOf c && phaseFromHost (c .phase)) TameAfter _ _ (λ _. tame-fifo _ c t) (λ _. t))
 
 -- the tick: a drive that stands still has none
 settled-in : (motion : Motion) (number : ℕ) (mounted : Bool) (step : ℕ) (d : Drive)

@@ -1,4 +1,6 @@
 pub mod AnswerLaws
+pub mod DmaLaws
 pub mod Open
+pub mod PadLaws
 pub mod StandLaws
 pub mod ValidLaws

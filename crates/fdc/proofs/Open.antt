@@ -10,7 +10,8 @@ use Rattle.fdc.specs.Calls.{noteChange}
 use Rattle.fdc.specs.Commands.{answeredOf, saidOf, saidTwo, idledOf, specifyOf, configureOf, sensingOf}
 use Rattle.fdc.specs.Commands.{reporterOf, sensedOf, soughtOf, recalibratedOf, moveOrder, formatOrder}
 use Rattle.fdc.specs.Commands.{identifyOrder, startedOf, ranOf, runOf, gatheredOf, goesOn, begunOf}
-use Rattle.fdc.specs.Data.{resultTaken, readIn, readFifo, offeredOf, writeFifo, dmaReadOf, dmaWriteOf}
+use Rattle.fdc.specs.Data.{resultTaken, readIn, readFifo, offeredOf, writeFifo, movedOf, cycleOf, dmaReadOf}
+use Rattle.fdc.specs.Data.{dmaWriteOf}
 use Rattle.fdc.specs.Record.{freshOf, withRegisters, withDrives, withFifo, withBytes, withPhase, withDrive}
 use Rattle.fdc.specs.Record.{validOf}
 use Rattle.fdc.specs.Registers.{motorIn, busyBits, anyBusy, pendingIn, msrOf, intOf, drqOf, dirOf}
@@ -24,7 +25,7 @@ unfolding engineOpen kindOf entryOf kindNumbered knownBelow stepped sought recal
     recalibrateStep recalibrateTick tickIn tickOf answerOf portOf readReg writeReg powerOn readPort writePort dmaRead
     dmaWrite noteChange answeredOf saidOf saidTwo idledOf specifyOf configureOf sensingOf reporterOf sensedOf
     soughtOf recalibratedOf moveOrder formatOrder identifyOrder startedOf ranOf runOf gatheredOf goesOn begunOf
-    resultTaken readIn readFifo offeredOf writeFifo dmaReadOf dmaWriteOf freshOf withRegisters withDrives withFifo
+    resultTaken readIn readFifo offeredOf writeFifo movedOf cycleOf dmaReadOf dmaWriteOf freshOf withRegisters withDrives withFifo
     withBytes withPhase withDrive validOf motorIn busyBits anyBusy pendingIn msrOf intOf drqOf dirOf resetAll resetOf
     reportAll releasedBy releasedOf withDor withTdr withRate wroteDor wroteDsr seenOf tickAll
     steppedOf st3Of sensedAt stillOf settledOf decidedOf startOf workOf decideIn decideOf ruledOf fdc·tickOf

@@ -8,12 +8,12 @@ use borrow.Author.Tests.{leb-true, le-leb}
 use Rattle.chip.specs.Fifo.{capacityOf}
 use Rattle.drive.specs.Drive.{waitOf as countdownOf}
 use Rattle.fdc.specs.declared.record.Controller.{Controller}
-use Rattle.fdc.specs.Record.{driveAt, phaseWait, validOf}
+use Rattle.fdc.specs.Record.{resultRoom, driveAt, phaseWait, validOf}
 
 pub record Valid (c : Controller) : Type 0 where
   pub fifo : c .fifo .count ≤ capacityOf (c .registers .efifo)
   pub gathered : c .bytes .gathered ≤ 9
-  pub left : c .bytes .left ≤ 7
+  pub left : c .bytes .left ≤ resultRoom
   pub head0 : driveAt 0 (c .drives) .head ≤ 81
   pub head1 : driveAt 1 (c .drives) .head ≤ 81
   pub head2 : driveAt 2 (c .drives) .head ≤ 81
@@ -58,7 +58,7 @@ true-valid c h =
     record {
       fifo = at-most (c .fifo .count) (capacityOf (c .registers .efifo)) (λ e. simp (e, and-false) at h);
       gathered = at-most (c .bytes .gathered) 9 (λ e. simp (e, and-false) at h);
-      left = at-most (c .bytes .left) 7 (λ e. simp (e, and-false) at h);
+      left = at-most (c .bytes .left) resultRoom (λ e. simp (e, and-false) at h);
       head0 = at-most (driveAt 0 (c .drives) .head) 81 (λ e. simp (e, and-false) at h);
       head1 = at-most (driveAt 1 (c .drives) .head) 81 (λ e. simp (e, and-false) at h);
       head2 = at-most (driveAt 2 (c .drives) .head) 81 (λ e. simp (e, and-false) at h);

@@ -36,7 +36,7 @@ use Rattle.sectors.specs.declared.order.Job.the-variants as job
 use Rattle.fdc.specs.declared.record.Registers.{Registers}
 use Rattle.fdc.specs.declared.record.Phase.the-variants.{Idle, Gathering, Starting, Sensing, Answering}
 use Rattle.fdc.specs.declared.record.Controller.{Controller}
-use Rattle.fdc.specs.Record.{noBytes, driveAt, withRegisters, withBytes, withPhase, withDrive}
+use Rattle.fdc.specs.Record.{padded, noBytes, driveAt, withRegisters, withBytes, withPhase, withDrive}
 use Rattle.fdc.specs.Registers.{anyBusy, reportAt}
 
 -- results wait; the command bytes have done their work
@@ -51,10 +51,10 @@ answeredOf loud results left c =
     }
 
 unfoldable pub saidOf : ℕ → Controller → Controller
-saidOf byte c = answeredOf false (byte ∷ 0 ∷ 0 ∷ 0 ∷ 0 ∷ 0 ∷ 0 ∷ []) 1 c
+saidOf byte c = answeredOf false (padded (byte ∷ [])) 1 c
 
 unfoldable pub saidTwo : ℕ → ℕ → Controller → Controller
-saidTwo first second c = answeredOf false (first ∷ second ∷ 0 ∷ 0 ∷ 0 ∷ 0 ∷ 0 ∷ []) 2 c
+saidTwo first second c = answeredOf false (padded (first ∷ second ∷ [])) 2 c
 
 unfoldable pub idledOf : Controller → Controller
 idledOf c =

@@ -2,11 +2,13 @@
 -- Assumes nothing.
 use Prim.Native.Nat.{ℕ, _-_, _/_}
 use mathlib.Core.Bool.{Bool, false, _&&_, cond}
-use mathlib.Core.List.{List, [], _∷_, _++_}
+use mathlib.Core.List.{List}
 use lib.Dec.{eqb, leb}
 use lib.ListN.{getD, drop}
 use Rattle.chip.specs.Fifo.{frontOf, takenOf, givenOf}
-use Rattle.engine.specs.Step.{toHost, fromHost, flowOf, hearsTc}
+use Rattle.engine.specs.declared.flow.Flow.{Flow}
+use Rattle.engine.specs.declared.flow.Flow.the-variants.{Quiet, ToHost, FromHost}
+use Rattle.engine.specs.Step.{toHost, fromHost, hearsTc}
 use Rattle.fdc.specs.declared.record.Phase.{Phase}
 use Rattle.fdc.specs.declared.record.Phase.the-variants.{Idle, Gathering, Starting, Working, Sensing, Answering}
 use Rattle.fdc.specs.declared.record.Controller.{Controller}
@@ -14,11 +16,11 @@ use Rattle.fdc.specs.declared.answer.Answer.{Answer}
 use Rattle.fdc.specs.declared.answer.Reply.the-variants.{Done, Byte}
 use Rattle.fdc.specs.Answer.{refused, answerOf}
 use Rattle.fdc.specs.Commands.{answeredOf, idledOf, gatheredOf, goesOn, begunOf}
-use Rattle.fdc.specs.Record.{withFifo}
-use Rattle.fdc.specs.Registers.{msrOf, drqOf}
+use Rattle.fdc.specs.Record.{padded, withFifo}
+use Rattle.fdc.specs.Registers.{msrOf, phaseFlow, drqOf}
 
 abbrev pub shifted : List ℕ → List ℕ
-shifted bytes = drop 1 bytes ++ (0 ∷ [])
+shifted bytes = padded (drop 1 bytes)
 
 -- a result byte is taken: the next is first, and after the last it is idle. INT goes off with the first one
 unfoldable pub resultTaken : Controller → Controller
@@ -52,20 +54,10 @@ writeFifo byte c =
     cond (eqb (msrOf c / 64) 2) (answerOf Done (offeredOf (c .phase) byte c)) (answerOf (refused 2) c)
 
 abbrev pub phaseToHost : Phase → Bool
-phaseToHost Idle = false
-phaseToHost (Gathering entry) = false
-phaseToHost (Starting order) = false
-phaseToHost (Working work) = toHost (flowOf work)
-phaseToHost (Sensing unit) = false
-phaseToHost (Answering loud) = false
+phaseToHost phase = toHost (phaseFlow phase)
 
 abbrev pub phaseFromHost : Phase → Bool
-phaseFromHost Idle = false
-phaseFromHost (Gathering entry) = false
-phaseFromHost (Starting order) = false
-phaseFromHost (Working work) = fromHost (flowOf work)
-phaseFromHost (Sensing unit) = false
-phaseFromHost (Answering loud) = false
+phaseFromHost phase = fromHost (phaseFlow phase)
 
 abbrev pub phaseHears : Phase → Bool
 phaseHears Idle = false
@@ -75,16 +67,20 @@ phaseHears (Working work) = hearsTc work
 phaseHears (Sensing unit) = false
 phaseHears (Answering loud) = false
 
--- 01 Refusals 3: the DRQ line is off or of the other direction
-unfoldable pub dmaReadOf : Bool → Controller → Answer
-dmaReadOf tc c =
-    cond (drqOf c && phaseToHost (c .phase))
-    (answerOf (Byte (frontOf (c .fifo))) (withFifo (takenOf tc (c .fifo)) c))
-    (answerOf (refused 3) c)
+-- a byte moved the way the flow goes: to the host the oldest one, from it the one on the bus. 01 Format: TC is ignored
+unfoldable pub movedOf : Flow → ℕ → Bool → Controller → Answer
+movedOf Quiet byte tc c = answerOf (refused 3) c
+movedOf ToHost byte tc c = answerOf (Byte (frontOf (c .fifo))) (withFifo (takenOf tc (c .fifo)) c)
+movedOf FromHost byte tc c =
+    answerOf Done (withFifo (givenOf (c .registers .efifo) (tc && phaseHears (c .phase)) byte (c .fifo)) c)
 
--- 01 Format: TC is ignored
+-- one DMA cycle, with the byte on the bus and TC; the phase says the direction. 01 Refusals 3: the DRQ line is off
+unfoldable pub cycleOf : ℕ → Bool → Controller → Answer
+cycleOf byte tc c = cond (drqOf c) (movedOf (phaseFlow (c .phase)) byte tc c) (answerOf (refused 3) c)
+
+-- 01 Refusals 3: or of the other direction
+unfoldable pub dmaReadOf : Bool → Controller → Answer
+dmaReadOf tc c = cond (toHost (phaseFlow (c .phase))) (cycleOf 0 tc c) (answerOf (refused 3) c)
+
 unfoldable pub dmaWriteOf : ℕ → Bool → Controller → Answer
-dmaWriteOf byte tc c =
-    cond (drqOf c && phaseFromHost (c .phase))
-    (answerOf Done (withFifo (givenOf (c .registers .efifo) (tc && phaseHears (c .phase)) byte (c .fifo)) c))
-    (answerOf (refused 3) c)
+dmaWriteOf byte tc c = cond (fromHost (phaseFlow (c .phase))) (cycleOf byte tc c) (answerOf (refused 3) c)

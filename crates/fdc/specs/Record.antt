@@ -1,10 +1,10 @@
 -- The record: document 01, Registers "Power-on values" and Refusals 4. What the registers show of it is Registers.
 -- Assumes nothing.
-use Prim.Native.Nat.{ℕ}
+use Prim.Native.Nat.{ℕ, _-_}
 use mathlib.Core.Bool.{Bool, true, false, _&&_}
-use mathlib.Core.List.{List, [], _∷_}
+use mathlib.Core.List.{List, [], _∷_, _++_}
 use lib.Dec.{leb}
-use lib.ListN.{getD, set, replicate}
+use lib.ListN.{length, getD, set, replicate}
 use Rattle.chip.specs.declared.fifo.Fifo.{Fifo}
 use Rattle.chip.specs.Fifo.{emptied, withinOf}
 use Rattle.drive.specs.declared.Drive.{Drive}
@@ -34,8 +34,16 @@ freshRegisters =
       pretrk = 0;
     }
 
+-- 01 Refusals 4: at most seven result bytes
+abbrev pub resultRoom : ℕ
+resultRoom = 7
+
+-- result bytes with zeros behind them, up to their room
+abbrev pub padded : List ℕ → List ℕ
+padded bytes = bytes ++ replicate (resultRoom - length bytes) 0
+
 abbrev pub noBytes : Bytes
-noBytes = record { command = replicate 9 0; gathered = 0; results = replicate 7 0; left = 0 }
+noBytes = record { command = replicate 9 0; gathered = 0; results = padded []; left = 0 }
 
 -- 01 Registers power-on: PCN 0, change flags on, and nothing going on; the heads of drives 0 and 1 stand where they
 -- stand
@@ -100,7 +108,7 @@ unfoldable pub validOf : Controller → Bool
 validOf c =
     withinOf (c .registers .efifo) (c .fifo)
     && leb (c .bytes .gathered) 9
-    && leb (c .bytes .left) 7
+    && leb (c .bytes .left) resultRoom
     && headWithin 0 c
     && headWithin 1 c
     && headWithin 2 c

@@ -71,6 +71,15 @@ msrOf c =
     cond (heldIn (c .registers .dor)) 0
     (phaseStatus (c .phase) (dmaIn (c .registers .spec2)) (c .fifo .asks) + busyBits (c .drives))
 
+-- 01 Registers MSR: which way bytes go in a phase: none before and after the execution
+abbrev pub phaseFlow : Phase → Flow
+phaseFlow Idle = Quiet
+phaseFlow (Gathering entry) = Quiet
+phaseFlow (Starting order) = Quiet
+phaseFlow (Working work) = flowOf work
+phaseFlow (Sensing unit) = Quiet
+phaseFlow (Answering loud) = Quiet
+
 -- a request of a command at work
 abbrev pub flowAsks : Flow → Bool → Bool
 flowAsks Quiet asks = false
@@ -78,12 +87,7 @@ flowAsks ToHost asks = asks
 flowAsks FromHost asks = asks
 
 abbrev pub phaseAsks : Phase → Bool → Bool
-phaseAsks Idle asks = false
-phaseAsks (Gathering entry) asks = false
-phaseAsks (Starting order) asks = false
-phaseAsks (Working work) asks = flowAsks (flowOf work) asks
-phaseAsks (Sensing unit) asks = false
-phaseAsks (Answering loud) asks = false
+phaseAsks phase asks = flowAsks (phaseFlow phase) asks
 
 -- the result of a data command, Read ID or Format has no byte taken yet
 abbrev pub loudIn : Phase → Bool

@@ -30,7 +30,7 @@ use Rattle.fdc.specs.declared.answer.Reply.{Reply}
 use Rattle.fdc.specs.declared.answer.Reply.the-variants.{Done}
 use Rattle.fdc.specs.Answer.{refused, answerOf}
 use Rattle.fdc.specs.Commands.{answeredOf, saidOf, ticksOf}
-use Rattle.fdc.specs.Record.{driveAt, validOf, withDrives, withFifo, withPhase}
+use Rattle.fdc.specs.Record.{padded, driveAt, validOf, withDrives, withFifo, withPhase}
 use Rattle.fdc.specs.Registers.{heldIn, motorIn}
 
 -- 01 Image mounted: the disk of a drive in its image, if its motor bit is on
@@ -88,7 +88,7 @@ stillOf c = record { controller = c; drive = 0; effect = Nothing }
 unfoldable pub settledOf : Then → Fifo → Controller → Controller
 settledOf (Ends v) fifo c =
     withFifo fifo
-    (answeredOf true (v .st0 ∷ v .st1 ∷ v .st2 ∷ v .id .c ∷ v .id .h ∷ v .id .r ∷ v .id .n ∷ []) 7 c)
+    (answeredOf true (padded (v .st0 ∷ v .st1 ∷ v .st2 ∷ v .id .c ∷ v .id .h ∷ v .id .r ∷ v .id .n ∷ [])) 7 c)
 settledOf (Works work) fifo c = withFifo fifo (withPhase (Working work) c)
 
 unfoldable pub decidedOf : ℕ → Step → Controller → Decision

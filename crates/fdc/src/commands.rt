@@ -3,7 +3,9 @@ use crate::lines::any_busy;
 use crate::record::Bytes;
 use crate::record::Controller;
 use crate::record::Phase;
+use crate::record::RESULTS;
 use crate::record::Registers;
+use crate::record::pad;
 use chip::codes::Entry;
 use chip::codes::Kind;
 use chip::codes::entry_at;
@@ -188,7 +190,7 @@ fn heeds(kind: Kind) -> bool
 
 impl Controller {
     // Results wait. They raise INT where they are a data command's, Read ID's or Format's.
-    pub fn answered(self, loud: bool, results: [u8; 7], left: u8) -> Controller
+    pub fn answered(self, loud: bool, results: [u8; RESULTS], left: u8) -> Controller
         ensures { λ r. ⌜ r ≡ answeredOf loud results left self ⌝ }
     {
         let registers = self.registers;
@@ -212,13 +214,13 @@ impl Controller {
     pub fn say(self, byte: u8) -> Controller
         ensures { λ r. ⌜ r ≡ saidOf byte self ⌝ }
     {
-        self.answered(false, [byte, 0, 0, 0, 0, 0, 0], 1)
+        self.answered(false, pad(&[byte]), 1)
     }
 
     fn say_two(self, first: u8, second: u8) -> Controller
         ensures { λ r. ⌜ r ≡ saidTwo first second self ⌝ }
     {
-        self.answered(false, [first, second, 0, 0, 0, 0, 0], 2)
+        self.answered(false, pad(&[first, second]), 2)
     }
 
     pub fn idled(self) -> Controller

@@ -2,13 +2,13 @@
 // bytes.
 use crate::answer::Answer;
 use crate::answer::Reply;
-use crate::lines::dma;
-use crate::record::Bytes;
+use crate::lines::phase_flow;
 use crate::record::Controller;
 use crate::record::Phase;
+use crate::record::RESULTS;
+use crate::record::pad;
 use chip::refusal::Refusal;
 use engine::flow::Flow;
-use engine::flow::flow_of;
 use engine::flow::hears_tc;
 ghost use mathlib.Core.Path.{_≡_};
 ghost use Prim.Native.Nat.{_-_, _≤_};
@@ -20,9 +20,9 @@ ghost use Rattle.fdc.specs.Data.{
   readFifo,
   offeredOf,
   writeFifo,
-  phaseToHost,
-  phaseFromHost,
   phaseHears,
+  movedOf,
+  cycleOf,
   dmaReadOf,
   dmaWriteOf,
 };
@@ -34,18 +34,10 @@ fn one_less(n: u8) -> u8
 }
 
 // The results behind the first, so that what is left is all that is held.
-fn shift(bytes: [u8; 7]) -> [u8; 7]
+fn shift(bytes: [u8; RESULTS]) -> [u8; RESULTS]
     ensures { λ r. ⌜ r ≡ shifted bytes ⌝ }
 {
-    [
-        bytes[1],
-        bytes[2],
-        bytes[3],
-        bytes[4],
-        bytes[5],
-        bytes[6],
-        0,
-    ]
+    pad(&bytes[1..])
 }
 
 fn to_host(flow: Flow) -> bool
@@ -65,32 +57,6 @@ fn from_host(flow: Flow) -> bool
         Flow::Quiet => false,
         Flow::ToHost => false,
         Flow::FromHost => true,
-    }
-}
-
-fn phase_to_host(phase: Phase) -> bool
-    ensures { λ r. ⌜ r ≡ phaseToHost phase ⌝ }
-{
-    match phase {
-        Phase::Idle => false,
-        Phase::Gathering(_) => false,
-        Phase::Starting(_) => false,
-        Phase::Working(work) => to_host(flow_of(work)),
-        Phase::Sensing(_) => false,
-        Phase::Answering(_) => false,
-    }
-}
-
-fn phase_from_host(phase: Phase) -> bool
-    ensures { λ r. ⌜ r ≡ phaseFromHost phase ⌝ }
-{
-    match phase {
-        Phase::Idle => false,
-        Phase::Gathering(_) => false,
-        Phase::Starting(_) => false,
-        Phase::Working(work) => from_host(flow_of(work)),
-        Phase::Sensing(_) => false,
-        Phase::Answering(_) => false,
     }
 }
 
@@ -181,15 +147,45 @@ impl Controller {
         self.answer(Reply::Refused(Refusal::Turn))
     }
 
+    // A byte moved the way the flow goes.
+    fn moved(self, flow: Flow, byte: u8, tc: bool) -> Answer
+        ensures { λ r. ⌜ r ≡ movedOf flow byte tc self ⌝ }
+    {
+        match flow {
+            Flow::Quiet => self.answer(Reply::Refused(Refusal::Line)),
+            Flow::ToHost => {
+                let front = self.fifo.front();
+                self.with_fifo(self.fifo.taken(tc))
+                    .answer(Reply::Byte(front))
+            }
+            Flow::FromHost => {
+                let phase = self.phase;
+                let counts = tc & phase_hears(phase);
+                self.with_fifo(self.fifo.given(self.registers.efifo, counts, byte))
+                    .answer(Reply::Done)
+            }
+        }
+    }
+
+    // One DMA cycle, with the byte on the bus: the phase says the direction.
+    fn cycle(self, byte: u8, tc: bool) -> Answer
+        ensures { λ r. ⌜ r ≡ cycleOf byte tc self ⌝ }
+    {
+        let line = self.drq();
+        if line {
+            let phase = self.phase;
+            return self.moved(phase_flow(phase), byte, tc);
+        }
+        self.answer(Reply::Refused(Refusal::Line))
+    }
+
     pub fn dma_taken(self, tc: bool) -> Answer
         ensures { λ r. ⌜ r ≡ dmaReadOf tc self ⌝ }
     {
         let phase = self.phase;
-        let line = self.drq() & phase_to_host(phase);
-        if line {
-            let byte = self.fifo.front();
-            return self.with_fifo(self.fifo.taken(tc))
-                .answer(Reply::Byte(byte));
+        let mine = to_host(phase_flow(phase));
+        if mine {
+            return self.cycle(0, tc);
         }
         self.answer(Reply::Refused(Refusal::Line))
     }
@@ -198,11 +194,9 @@ impl Controller {
         ensures { λ r. ⌜ r ≡ dmaWriteOf byte tc self ⌝ }
     {
         let phase = self.phase;
-        let line = self.drq() & phase_from_host(phase);
-        if line {
-            let counts = tc & phase_hears(phase);
-            return self.with_fifo(self.fifo.given(self.registers.efifo, counts, byte))
-                .answer(Reply::Done);
+        let mine = from_host(phase_flow(phase));
+        if mine {
+            return self.cycle(byte, tc);
         }
         self.answer(Reply::Refused(Refusal::Line))
     }

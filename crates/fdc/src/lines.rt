@@ -16,6 +16,7 @@ ghost use Rattle.fdc.specs.Registers.{
   busyBits,
   flowStatus,
   phaseStatus,
+  phaseFlow,
   flowAsks,
   phaseAsks,
   loudIn,
@@ -147,6 +148,20 @@ fn phase_status(phase: Phase, dma: bool, asks: bool) -> u8
     }
 }
 
+// Which way a phase's bytes go.
+pub fn phase_flow(phase: Phase) -> Flow
+    ensures { λ r. ⌜ r ≡ phaseFlow phase ⌝ }
+{
+    match phase {
+        Phase::Idle => Flow::Quiet,
+        Phase::Gathering(_) => Flow::Quiet,
+        Phase::Starting(_) => Flow::Quiet,
+        Phase::Working(work) => flow_of(work),
+        Phase::Sensing(_) => Flow::Quiet,
+        Phase::Answering(_) => Flow::Quiet,
+    }
+}
+
 fn flow_asks(flow: Flow, asks: bool) -> bool
     ensures { λ r. ⌜ r ≡ flowAsks flow asks ⌝ }
 {
@@ -160,14 +175,7 @@ fn flow_asks(flow: Flow, asks: bool) -> bool
 fn phase_asks(phase: Phase, asks: bool) -> bool
     ensures { λ r. ⌜ r ≡ phaseAsks phase asks ⌝ }
 {
-    match phase {
-        Phase::Idle => false,
-        Phase::Gathering(_) => false,
-        Phase::Starting(_) => false,
-        Phase::Working(work) => flow_asks(flow_of(work), asks),
-        Phase::Sensing(_) => false,
-        Phase::Answering(_) => false,
-    }
+    flow_asks(phase_flow(phase), asks)
 }
 
 fn loud(phase: Phase) -> bool

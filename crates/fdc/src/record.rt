@@ -7,9 +7,12 @@ use engine::flow::wait_of;
 use sectors::order::Order;
 use sectors::work::Work;
 ghost use mathlib.Core.Path.{_≡_};
-ghost use Prim.Native.Nat.{_%_};
+ghost use Prim.Native.Nat.{_%_, _≤_};
+ghost use lib.ListN.{length};
 ghost use Rattle.fdc.specs.Record.{
   freshRegisters,
+  resultRoom,
+  padded,
   noBytes,
   freshOf,
   withRegisters,
@@ -37,11 +40,14 @@ pub struct Registers {
     pub pretrk: u8,
 }
 
+// The room of result bytes (01 Refusals 4).
+pub const RESULTS: usize = 7;
+
 // Command bytes gathered, and result bytes left, the next one first. What is not in use is 0.
 pub struct Bytes {
     pub command: [u8; 9],
     pub gathered: u8,
-    pub results: [u8; 7],
+    pub results: [u8; RESULTS],
     pub left: u8,
 }
 
@@ -64,6 +70,20 @@ pub struct Controller {
     pub fifo: Fifo,
     pub bytes: Bytes,
     pub phase: Phase,
+}
+
+// Result bytes with zeros behind them, up to their room.
+pub(crate) fn pad(bytes: &[u8]) -> [u8; RESULTS]
+    requires { ⌜ length (now bytes) ≤ resultRoom ⌝ }
+    ensures { λ r. ⌜ r ≡ padded (now (bytes .entry)) ⌝ }
+{
+    let mut room = [0u8; RESULTS];
+    let mut k = 0;
+    while k < bytes.len() {
+        room[k] = bytes[k];
+        k += 1;
+    }
+    room
 }
 
 fn phase_wait(phase: Phase) -> u8
@@ -124,7 +144,7 @@ impl Bytes {
         Bytes {
             command: [0u8; 9],
             gathered: 0,
-            results: [0u8; 7],
+            results: [0u8; RESULTS],
             left: 0,
         }
     }
@@ -231,7 +251,7 @@ impl Controller {
         let phase = self.phase;
         self.fifo.within(self.registers.efifo)
             & (self.bytes.gathered <= 9)
-            & (self.bytes.left <= 7)
+            & (self.bytes.left as usize <= RESULTS)
             & (a.head <= 81)
             & (b.head <= 81)
             & (c.head <= 81)

@@ -6,6 +6,7 @@ use crate::lines::held;
 use crate::lines::motor;
 use crate::record::Controller;
 use crate::record::Phase;
+use crate::record::pad;
 use chip::fifo::Fifo;
 use chip::refusal::Refusal;
 use chip::step::step_ticks;
@@ -156,7 +157,7 @@ impl Controller {
         match then {
             Then::Ends(v) => {
                 let id = v.id;
-                let results = [v.st0, v.st1, v.st2, id.c, id.h, id.r, id.n];
+                let results = pad(&[v.st0, v.st1, v.st2, id.c, id.h, id.r, id.n]);
                 self.answered(true, results, 7).with_fifo(fifo)
             }
             Then::Works(work) => self.with_phase(Phase::Working(work)).with_fifo(fifo),

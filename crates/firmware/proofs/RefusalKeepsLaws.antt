@@ -22,8 +22,9 @@ use Rattle.fdc.specs.declared.record.Phase.{Phase}
 use Rattle.fdc.specs.declared.record.Phase.the-variants.{Idle, Gathering, Starting, Working, Sensing, Answering}
 use Rattle.fdc.specs.Answer.{valueOf, numberIn, answerOf}
 use Rattle.fdc.specs.Calls.{portOf, readReg, powerOn, readPort, dmaRead}
-use Rattle.fdc.specs.Data.{readIn, readFifo, dmaReadOf, phaseToHost}
+use Rattle.fdc.specs.Data.{readIn, readFifo, phaseToHost}
 use Rattle.fdc.specs.Record.{freshOf, validOf, driveAt}
+use Rattle.fdc.proofs.DmaLaws.{dma-read-is}
 use Rattle.fdc.specs.Registers.{heldIn, motorIn, dmaIn, bit, busyBits, flowStatus, phaseStatus, msrOf, drqOf, dirOf}
 use Rattle.reached.specs.Runs.{Call, powers, reads, writes, takes, gives, notes, answerTo}
 use Rattle.reached.specs.Runs.{ticks as one-tick}
@@ -118,10 +119,12 @@ module _ (c : Controller) (dor : c .registers .dor < 256) (front : frontOf (c .f
   read-small offset = by-test (validOf c) Small _ _ (λ _. read-reg-small (portOf offset)) (λ _. omega arith)
 
   take-small : (tc : Bool) → Small (answerTo (takes tc) c)
-  unfolding answerTo dmaRead dmaReadOf answerOf
+  unfolding answerTo dmaRead answerOf
   take-small tc =
       by-test (validOf c) Small _ _
-      (λ _. by-test (drqOf c && phaseToHost (c .phase)) Small _ _ (λ _. front) (λ _. omega arith)) (λ _. omega arith)
+      (λ _. rw (dma-read-is tc c)
+      (by-test (drqOf c && phaseToHost (c .phase)) Small _ _ (λ _. front) (λ _. omega arith)))
+      (λ _. omega arith)
 
 -- 01 Refusals 5 is power-on's alone
 abbrev NoPower : Call → Type 0

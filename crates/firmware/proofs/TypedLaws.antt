@@ -8,7 +8,7 @@ use mathlib.Core.List.{List, [], _∷_}
 use mathlib.Core.Logic.{_⊎_, inl, inr}
 use mathlib.Core.Path.{_≡_, refl, _∙_}
 use lib.Dec.{eqb, leb, ltb}
-use lib.ListN.{length, set, length-set, length-append, length-drop}
+use lib.ListN.{length, set, length-set}
 use lib.Seq.{getD-set-same, getD-set-other}
 use Rattle.image.proofs.TestLaws.{by-test, le-or-lt}
 use Rattle.image.specs.Lent.{pickOf}
@@ -51,16 +51,17 @@ use Rattle.fdc.specs.Calls.{portOf, readReg, writeReg, powerOn, readPort, write
 use Rattle.fdc.specs.Commands.{answeredOf, saidOf, saidTwo, idledOf, commandByte, specifyOf, configureOf, sensingOf}
 use Rattle.fdc.specs.Commands.{reporterOf, sensedOf, soughtOf, recalibratedOf, startedOf, ranOf, runOf, heedsOf}
 use Rattle.fdc.specs.Commands.{gatheredOf, goesOn, begunOf}
-use Rattle.fdc.specs.Data.{resultTaken, readIn, readFifo, offeredOf, writeFifo, dmaReadOf, dmaWriteOf, phaseToHost}
-use Rattle.fdc.specs.Data.{phaseFromHost}
-use Rattle.fdc.specs.Record.{freshOf, driveAt, noDrive, phaseWait, withRegisters, withDrives, withFifo, withBytes}
-use Rattle.fdc.specs.Record.{withPhase, withDrive, validOf}
+use Rattle.fdc.specs.Data.{resultTaken, readIn, readFifo, offeredOf, writeFifo, phaseToHost, phaseFromHost}
+use Rattle.fdc.specs.Record.{freshOf, driveAt, noDrive, phaseWait, withRegisters, withDrives, withFifo}
+use Rattle.fdc.specs.Record.{withBytes, withPhase, withDrive, validOf}
 use Rattle.fdc.specs.Registers.{heldIn, msrOf, drqOf, anyBusy}
 use Rattle.fdc.specs.Reset.{resetAll, resetOf, reportAll, releasedBy, releasedOf, withDor, withTdr, withRate, wroteDor}
 use Rattle.fdc.specs.Reset.{wroteDsr}
 use Rattle.reached.specs.Runs.{Call, powers, reads, writes, takes, gives, ticks, notes, answerTo, after, runCalls}
 use Rattle.fdc.specs.Ticks.{seenOf, tickAll, steppedOf, sensedAt, stillOf, settledOf, decidedOf, startOf, workOf}
 use Rattle.fdc.specs.Ticks.{decideIn, decideOf, ruledOf, tickOf}
+use Rattle.fdc.proofs.DmaLaws.{dma-read-is, dma-write-is}
+use Rattle.fdc.proofs.PadLaws.{length-shifted}
 use Rattle.reached.proofs.GoodLaws.{four-of}
 use Rattle.fdc.proofs.ValidLaws.{Valid, valid-true, true-valid}
 use Rattle.pack.specs.Back.{DrivesFit, Typed}
@@ -312,7 +313,7 @@ typed-read-in (Working work) c t = typed-fifo _ c (room-taken true false (c .fif
 typed-read-in (Sensing unit) c t = t
 typed-read-in (Answering loud) c t =
     by-test (leb (c .bytes .left) 1) Typed _ _ (λ _. typed-idled c t)
-    (λ _. typed-answered false _ _ c (simp (length-append, length-drop) (omega (arith, t .results))) t)
+    (λ _. typed-answered false _ _ c (length-shifted (c .bytes .results) (t .results)) t)
 
 typed-read-reg : (port : Port) (c : Controller) → Typed c → TypedAfter (readReg port c)
 unfolding readReg answerOf readFifo
@@ -414,20 +415,20 @@ typed-power-on head0 head1 =
     by-test (leb head0 81 && leb head1 81) TypedAfter _ _ (λ _. typed-fresh head0 head1) (λ _. typed-fresh 0 0)
 
 pub typed-after : (call : Call) (c : Controller) → Typed c → Typed (after call c)
-unfolding answerTo readPort writePort dmaRead dmaReadOf dmaWrite dmaWriteOf tickOf noteChange answerOf
+unfolding answerTo readPort writePort dmaRead dmaWrite tickOf noteChange answerOf
 typed-after (powers head0 head1) c t = typed-power-on head0 head1
 typed-after (reads offset) c t = by-test (validOf c) TypedAfter _ _ (λ _. typed-read-reg (portOf offset) c t) (λ _. t)
 typed-after (writes offset byte) c t =
     by-test (validOf c) TypedAfter _ _ (λ _. typed-write-reg (portOf offset) byte c t) (λ _. t)
 typed-after (takes tc) c t =
     by-test (validOf c) TypedAfter _ _
-    (λ _. by-test (drqOf c && phaseToHost (c .phase)) TypedAfter _ _
-    (λ _. typed-fifo _ c (room-taken true tc (c .fifo) .sixteen (t .fifo)) t) (λ _. t))
+    (λ _. rw (dma-read-is tc c) (by-test (drqOf c && phaseToHost (c .phase)) TypedAfter _ _
+    (λ _. typed-fifo _ c (room-taken true tc (c .fifo) .sixteen (t .fifo)) t) (λ _. t)))
     (λ _. t)
 typed-after (gives byte tc) c t =
     by-test (validOf c) TypedAfter _ _
-    (λ _. by-test (drqOf c && phaseFromHost (c .phase)) TypedAfter _ _
-    (λ _. typed-fifo _ c (room-given (c .registers .efifo) _ byte (c .fifo) .sixteen (t .fifo)) t) (λ _. t))
+    (λ _. rw (dma-write-is byte tc c) (by-test (drqOf c && phaseFromHost (c .phase)) TypedAfter _ _
+    (λ _. typed-fifo _ c (room-given (c .registers .efifo) _ byte (c .fifo) .sixteen (t .fifo)) t) (λ _. t)))
     (λ _. t)
 typed-after (ticks a b) c t = typed-ruled a b c t
 typed-after (notes drive) c t =

@@ -22,10 +22,11 @@ use Rattle.fdc.specs.declared.answer.Reply.the-variants.{Done, Byte}
 use Rattle.fdc.specs.declared.record.Controller.{Controller}
 use Rattle.fdc.specs.declared.record.Phase.the-variants.{Working}
 use Rattle.fdc.specs.Calls.{dmaRead, dmaWrite}
-use Rattle.fdc.specs.Data.{phaseToHost, phaseFromHost, dmaReadOf, dmaWriteOf}
+use Rattle.fdc.specs.Data.{phaseToHost, phaseFromHost, movedOf, cycleOf, dmaReadOf, dmaWriteOf}
 use Rattle.fdc.specs.Answer.{answerOf}
 use Rattle.fdc.specs.Record.{withFifo, validOf}
 use Rattle.fdc.specs.Registers.{gateIn, dmaIn, pendingIn, flowAsks, intOf, drqOf}
+use Rattle.fdc.proofs.DmaLaws.{dma-read-is, dma-write-is}
 use Rattle.pack.specs.declared.flat.Spot.{Spot}
 use Rattle.pack.specs.Back.{Holds}
 use Rattle.pack.specs.Bytes.{byteAt, flagAt, rowAt, within, passNumbered, motionOf, fifoBytes, flowBytes, fifoIn}
@@ -223,7 +224,7 @@ writing-told l h = pass-told 1 l h
 pub reading-cycle : (tc : Bool) (l : List ℕ) → readingIn l ≡ true
     → dmaRead tc (recordIn l)
     ≡ answerOf (Byte (frontOf (recordIn l .fifo))) (withFifo (takenOf tc (recordIn l .fifo)) (recordIn l))
-unfolding dmaRead dmaReadOf drqOf recordIn passNumbered
+unfolding dmaRead movedOf cycleOf dmaReadOf drqOf recordIn passNumbered
 reading-cycle tc l h =
     let g = reading-told l h in
     let k : Cycles l = cycles-told l (g .0) in
@@ -234,7 +235,7 @@ pub writing-cycle : (byte : ℕ) (tc : Bool) (l : List ℕ) → writingIn l ≡ 
     → dmaWrite byte tc (recordIn l)
     ≡ answerOf Done
     (withFifo (givenOf (recordIn l .registers .efifo) tc byte (recordIn l .fifo)) (recordIn l))
-unfolding dmaWrite dmaWriteOf drqOf recordIn passNumbered
+unfolding dmaWrite movedOf cycleOf dmaWriteOf drqOf recordIn passNumbered
 writing-cycle byte tc l h =
     let g = writing-told l h in
     let k : Cycles l = cycles-told l (g .0) in
@@ -242,16 +243,18 @@ writing-cycle byte tc l h =
 
 -- a cycle hands back the record with another FIFO, or as it was
 pub read-keeps : (tc : Bool) (c : Controller) → withFifo (dmaRead tc c .controller .fifo) c ≡ dmaRead tc c .controller
-unfolding dmaRead dmaReadOf answerOf withFifo
+unfolding dmaRead answerOf withFifo
 read-keeps tc c =
     let P : Answer → Type 0 = λ a. withFifo (a .controller .fifo) c ≡ a .controller in
-    by-test (validOf c) P _ _ (λ _. by-test (drqOf c && phaseToHost (c .phase)) P _ _ (λ _. refl) (λ _. refl))
+    by-test (validOf c) P _ _
+    (λ _. rw (dma-read-is tc c) (by-test (drqOf c && phaseToHost (c .phase)) P _ _ (λ _. refl) (λ _. refl)))
     (λ _. refl)
 
 pub write-keeps : (byte : ℕ) (tc : Bool) (c : Controller)
     → withFifo (dmaWrite byte tc c .controller .fifo) c ≡ dmaWrite byte tc c .controller
-unfolding dmaWrite dmaWriteOf answerOf withFifo
+unfolding dmaWrite answerOf withFifo
 write-keeps byte tc c =
     let P : Answer → Type 0 = λ a. withFifo (a .controller .fifo) c ≡ a .controller in
-    by-test (validOf c) P _ _ (λ _. by-test (drqOf c && phaseFromHost (c .phase)) P _ _ (λ _. refl) (λ _. refl))
+    by-test (validOf c) P _ _
+    (λ _. rw (dma-write-is byte tc c) (by-test (drqOf c && phaseFromHost (c .phase)) P _ _ (λ _. refl) (λ _. refl)))
     (λ _. refl)

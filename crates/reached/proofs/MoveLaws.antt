@@ -41,6 +41,7 @@ use Rattle.fdc.specs.Reset.{withDor, withTdr, withRate, wroteDor, wroteDsr}
 use Rattle.reached.specs.Runs.{Call, powers, reads, writes, takes, gives, ticks, notes, answerTo, after, runCalls}
 use Rattle.fdc.specs.Ticks.{seenOf, presentIn, tickAll, steppedOf, sensedAt, stillOf, settledOf, decidedOf, startOf, workOf, decideIn, decideOf, ruledOf, tickOf}
 use Rattle.reached.specs.Good.{Good}
+use Rattle.fdc.proofs.DmaLaws.{dma-read-is, dma-write-is}
 use Rattle.reached.proofs.GoodLaws.{good-valid, good-after}
 
 same-refl : (d : Drive) → Same d d
@@ -268,18 +269,20 @@ module _ (k step : ℕ) (low : k < 4) where
     }
 
     stays-dma-read : (tc : Bool) → Left c (dmaReadOf tc c)
-    unfolding dmaReadOf answerOf withFifo
+    unfolding answerOf withFifo
     stays-dma-read tc =
-        by-test (drqOf c && phaseToHost (c .phase)) (Left c) _ _
+        rw (dma-read-is tc c)
+        (by-test (drqOf c && phaseToHost (c .phase)) (Left c) _ _
         (λ _. record { drive = same-refl (driveAt k (c .drives)); awake = awake })
-        (λ _. stays c awake)
+        (λ _. stays c awake))
 
     stays-dma-write : (byte : ℕ) (tc : Bool) → Left c (dmaWriteOf byte tc c)
-    unfolding dmaWriteOf answerOf withFifo
+    unfolding answerOf withFifo
     stays-dma-write byte tc =
-        by-test (drqOf c && phaseFromHost (c .phase)) (Left c) _ _
+        rw (dma-write-is byte tc c)
+        (by-test (drqOf c && phaseFromHost (c .phase)) (Left c) _ _
         (λ _. record { drive = same-refl (driveAt k (c .drives)); awake = awake })
-        (λ _. stays c awake)
+        (λ _. stays c awake))
 
     stays-noted : length (c .drives) ≡ 4 → (j : ℕ) → Stays c (withDrive j (notedOf (driveAt j (c .drives))) c)
     unfolding withDrive withDrives

@@ -418,22 +418,24 @@ module _ (byte : ℕ) (c : Controller) (e : eqb (msrOf c / 64) 2 ≡ true) where
 
 -- the DMA cycles
 take-rule : (tc : Bool) (c : Controller) → Ruled (takes tc) c (dmaReadOf tc c)
-unfolding dmaReadOf withFifo answerOf
+unfolding withFifo answerOf
 take-rule tc c =
-    by-test (drqOf c && phaseToHost (c .phase)) (Ruled (takes tc) c) _ _
+    rw (dma-read-is tc c)
+    (by-test (drqOf c && phaseToHost (c .phase)) (Ruled (takes tc) c) _ _
     (λ t. let (line, to) = both (drqOf c) (phaseToHost (c .phase)) t in
     let (work, p, w, asks) = to-host-works (c .phase) (c .fifo .asks) to (drq-asks c line) in
     leaves (takes tc) c _ _ refl (took tc (by-cycle tc refl) work p w asks))
-    (λ _. same (takes tc) c _ (refuses _))
+    (λ _. same (takes tc) c _ (refuses _)))
 
 give-rule : (byte : ℕ) (tc : Bool) (c : Controller) → Ruled (gives byte tc) c (dmaWriteOf byte tc c)
-unfolding dmaWriteOf withFifo answerOf
+unfolding withFifo answerOf
 give-rule byte tc c =
-    by-test (drqOf c && phaseFromHost (c .phase)) (Ruled (gives byte tc) c) _ _
+    rw (dma-write-is byte tc c)
+    (by-test (drqOf c && phaseFromHost (c .phase)) (Ruled (gives byte tc) c) _ _
     (λ t. let (line, from) = both (drqOf c) (phaseFromHost (c .phase)) t in
     let (work, p, w, asks) = from-host-works (c .phase) (c .fifo .asks) from (drq-asks c line) in
     leaves (gives byte tc) c _ _ refl (gave byte tc (by-dma tc refl) work p w asks))
-    (λ _. same (gives byte tc) c _ (refuses _))
+    (λ _. same (gives byte tc) c _ (refuses _)))
 
 -- the registers
 read-rule : (offset : ℕ) (p : Port) (c : Controller) → AtPort p offset → Ruled (reads offset) c (readReg p c)
@@ -618,7 +620,7 @@ rule-of (takes tc) c =
     by-test (validOf c) (Ruled (takes tc) c) _ _ (λ _. take-rule tc c) (λ _. same (takes tc) c _ (refuses _))
 rule-of (gives byte tc) c =
     by-test (validOf c) (Ruled (gives byte tc) c) _ _ (λ _. give-rule byte tc c)
-    (λ _. same (gives byte tc) c _ (refuses _))
+    (λ _. same (gives byte tc) c _ (refuses _)))
 rule-of (ticks a b) c = tick-rule a b c
 rule-of (notes drive) c =
     by-test (not (validOf c)) (Ruled (notes drive) c) _ _ (λ _. same (notes drive) c _ (refuses _))

@@ -13,7 +13,7 @@ use Rattle.engine.specs.Step.{waitOf}
 use Rattle.fdc.specs.declared.record.Controller.{Controller}
 use Rattle.fdc.specs.declared.record.Phase.{Phase}
 use Rattle.fdc.specs.declared.record.Phase.the-variants.{Idle, Gathering, Starting, Working, Sensing, Answering}
-use Rattle.fdc.specs.Record.{driveAt}
+use Rattle.fdc.specs.Record.{resultRoom, driveAt}
 
 -- four drives, each within its bounds
 pub record Four (drives : List Drive) : Type 0 where
@@ -33,5 +33,5 @@ pub record Good (c : Controller) : Type 0 where
   pub drives : Four (c .drives)
   pub fifo : Fits (c .registers .efifo) (c .fifo)
   pub fifothr : c .registers .fifothr ≤ 15
-  pub left : c .bytes .left ≤ 7
+  pub left : c .bytes .left ≤ resultRoom
   pub phase : Suits (c .phase) (c .bytes .gathered) (c .fifo)

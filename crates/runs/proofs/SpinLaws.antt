@@ -17,13 +17,14 @@ use Rattle.fdc.specs.declared.ticks.Decision.{Decision}
 use Rattle.fdc.specs.Answer.{answerOf}
 use Rattle.fdc.specs.Calls.{dmaRead, dmaWrite}
 use Rattle.fdc.specs.Commands.{answeredOf, saidOf}
-use Rattle.fdc.specs.Data.{phaseToHost, phaseFromHost, dmaReadOf, dmaWriteOf}
+use Rattle.fdc.specs.Data.{phaseToHost, phaseFromHost}
 use Rattle.reached.specs.Moves.{tickOne, tickCount}
 use Rattle.fdc.specs.Record.{withDrives, withFifo, withPhase, validOf}
 use Rattle.fdc.specs.Registers.{heldIn, motorIn, drqOf}
 use Rattle.reached.specs.Runs.{Call, powers, reads, writes, takes, gives, ticks, notes, answerTo, after, runCalls}
 use Rattle.fdc.specs.Ticks.{steppedOf, sensedAt, stillOf, settledOf, decidedOf, decideIn, decideOf, ruledOf}
 use Rattle.fdc.specs.Ticks.{startOf as fdc·startOf, workOf as fdc·workOf, tickOf as fdc·tickOf}
+use Rattle.fdc.proofs.DmaLaws.{dma-read-is, dma-write-is}
 use Rattle.demands.specs.DataError.{Spins}
 use Rattle.demands.specs.InTime.{AtTicks, Prompt}
 use Rattle.demands.specs.Work.{atWork}
@@ -54,19 +55,21 @@ tick-registers a b c =
     (λ _. refl)
 
 pub take-registers : (tc : Bool) (c : Controller) → after (takes tc) c .registers ≡ c .registers
-unfolding answerTo dmaRead dmaReadOf answerOf withFifo
+unfolding answerTo dmaRead answerOf withFifo
 take-registers tc c =
     by-test (validOf c) (λ (a : Answer). a .controller .registers ≡ c .registers) _ _
-    (λ _. by-test (drqOf c && phaseToHost (c .phase)) (λ (a : Answer). a .controller .registers ≡ c .registers) _ _
-    (λ _. refl) (λ _. refl))
+    (λ _. rw (dma-read-is tc c)
+    (by-test (drqOf c && phaseToHost (c .phase)) (λ (a : Answer). a .controller .registers ≡ c .registers) _ _
+    (λ _. refl) (λ _. refl)))
     (λ _. refl)
 
 give-registers : (byte : ℕ) (tc : Bool) (c : Controller) → after (gives byte tc) c .registers ≡ c .registers
-unfolding answerTo dmaWrite dmaWriteOf answerOf withFifo
+unfolding answerTo dmaWrite answerOf withFifo
 give-registers byte tc c =
     by-test (validOf c) (λ (a : Answer). a .controller .registers ≡ c .registers) _ _
-    (λ _. by-test (drqOf c && phaseFromHost (c .phase)) (λ (a : Answer). a .controller .registers ≡ c .registers) _ _
-    (λ _. refl) (λ _. refl))
+    (λ _. rw (dma-write-is byte tc c)
+    (by-test (drqOf c && phaseFromHost (c .phase)) (λ (a : Answer). a .controller .registers ≡ c .registers) _ _
+    (λ _. refl) (λ _. refl)))
     (λ _. refl)
 
 -- ticks and DMA cycles only

@@ -8,8 +8,5 @@ pub phase-asks-spec : {M : Type 1} → statement M
 phase-asks-spec =
     tie.close
     (tie.spec
-    (λ c. search needs) (λ c. search needs) (λ c. search needs) (λ c. search needs) (λ c κs. search needs)
-    (λ c κs. search needs) (λ c. search needs) (λ c. search needs) (λ c. search needs) (λ c. search needs)
-    (λ c. search needs)
-    (λ c. rw (c .flow-asks .ensures, c .before .flow-of .ensures, c .before .before .before .phase .given .1))
-    (λ c. search needs) (λ c. search needs))
+    (λ c κs. search needs) (λ c κs. search needs)
+    (λ c. rw (c .flow-asks .ensures, c .before .phase-flow .ensures)))

@@ -10,19 +10,15 @@ unfolding dmaReadOf
 dma-taken-spec =
     tie.close
     (tie.spec
-    (λ c κs. search needs) (λ c κs. search needs) (λ c κs. search needs) (λ c κs. search needs)
-    (λ c κs. search needs) (λ c κs. search needs)
+    (λ c κs. search needs) (λ c κs. search needs) (λ c κs. search needs)
     (λ c. rw (
-      ← c .before .before .before .before .before .before .drq .ensures,
-      ← c .before .before .before .before .before .phase-to-host .ensures,
-      c .before .before .before .before .if1 .taken,
-      ← c .before .before .before .front .ensures,
-      ← c .before .before .taken .ensures,
-      ← c .before .with-fifo .ensures,
-    ) (c .answer .ensures))
+      ← c .before .before .before .phase-flow .ensures,
+      ← c .before .before .to-host .ensures,
+      c .before .if1 .taken,
+    ) (c .cycle .ensures))
     (λ c κs. search needs)
     (λ c. rw (
-      ← c .before .before .before .drq .ensures,
-      ← c .before .before .phase-to-host .ensures,
+      ← c .before .before .before .phase-flow .ensures,
+      ← c .before .before .to-host .ensures,
       c .before .if1 .left,
-    ) (c .answer2 .ensures)))
+    ) (c .answer .ensures)))

@@ -10,5 +10,5 @@ unfolding saidTwo
 say-two-spec =
     tie.close
     (tie.spec
-    (λ c κs. search needs)
-    (λ c. c .answered .ensures))
+    (λ c. search needs) (λ c κs. search needs) (λ c κs. search needs)
+    (λ c. rw (← c .before .pad .ensures) (c .answered .ensures)))
