@@ -1,7 +1,7 @@
 // The command codes: which command each of the 256 is, and how many bytes it has (01 Commands).
 use crate::table::CODES;
 ghost use mathlib.Core.Path.{_≡_};
-ghost use Rattle.chip.specs.Commands.{kindOf, entryOf, lineOf, kindNumbered, mtOf, skOf};
+ghost use Rattle.chip.specs.Commands.{kindOf, entryOf, lineOf, kindNumber, kindNumbered, mtOf, skOf};
 
 pub enum Kind {
     Unknown,
@@ -25,7 +25,28 @@ pub struct Entry {
     pub bytes: u8,
 }
 
-fn kind_numbered(n: u8) -> Kind
+pub fn kind_number(kind: Kind) -> u8
+    ensures { λ r. ⌜ r ≡ kindNumber kind ⌝ }
+{
+    match kind {
+        Kind::Unknown => 0,
+        Kind::ReadData => 1,
+        Kind::ReadDeleted => 2,
+        Kind::WriteData => 3,
+        Kind::WriteDeleted => 4,
+        Kind::ReadId => 5,
+        Kind::Format => 6,
+        Kind::Recalibrate => 7,
+        Kind::SenseInterrupt => 8,
+        Kind::Specify => 9,
+        Kind::SenseDrive => 10,
+        Kind::Seek => 11,
+        Kind::Version => 12,
+        Kind::Configure => 13,
+    }
+}
+
+pub fn kind_numbered(n: u8) -> Kind
     ensures { λ r. ⌜ r ≡ kindNumbered n ⌝ }
 {
     match n {

@@ -1,6 +1,6 @@
 -- A word that says a refusal leaves what is lent as it was; 5 has a fresh record (specs/Lists).
 -- Assumes nothing.
-use Prim.Native.Nat.{ℕ, _/_, _%_, _<_, _≤_}
+use Prim.Native.Nat.{ℕ, _+_, _/_, _%_, _<_, _≤_}
 use native.Mathlib.Omega.{arith}
 use mathlib.Core.Bool.{Bool, true, false, _&&_, _||_}
 use mathlib.Core.List.{List}
@@ -33,6 +33,7 @@ use Rattle.answers.specs.Refusals.{Row, Given, numberTo, ReadsNothing}
 use Rattle.answers.proofs.RefusalLaws.{refused-exactly}
 use Rattle.pack.specs.Back.{Holds}
 use Rattle.pack.specs.Bytes.{recordSize, recordIn, isRecord, storedOf}
+use Rattle.pack.specs.Places.{registersRow, fifoRow, resultRow, dorAt}
 use Rattle.many_ticks.specs.Run.{Ran, refusedOf, ticksOf}
 use Rattle.capi.specs.Calls.{setIn, wordFrom, powerWord, imageFrom, longFrom, firstFrom, secondFrom}
 use Rattle.capi.specs.Word.{noRecord, wordOf, longOf}
@@ -178,14 +179,16 @@ module _ (w : World) (all : AllBytes (w .bytes)) (good : isRecord (w .bytes) ≡
   Keeps call = (refusalIn (wordTo call w) ≡ 0 → ⊥) → Left (refusalIn (wordTo call w)) w (worldAfter call w)
 
   -- the three that a value may be read from
+  is-byte : (k : ℕ) → getD (w .bytes) k 0 < 256
+  is-byte k = bytes-at (w .bytes) k all
+
   read-fits : (offset : ℕ) → valueOf (answerTo (reads offset) c .reply) < 0x100
   unfolding recordIn
-  read-fits offset = read-small c (bytes-at (w .bytes) 0 all) (bytes-at (w .bytes) 50 all) (bytes-at (w .bytes) 79 all)
-      offset
+  read-fits offset = read-small c (is-byte (registersRow + dorAt)) (is-byte fifoRow) (is-byte resultRow) offset
 
   take-fits : (tc : Bool) → valueOf (answerTo (takes tc) c .reply) < 0x100
   unfolding recordIn
-  take-fits tc = take-small c (bytes-at (w .bytes) 0 all) (bytes-at (w .bytes) 50 all) (bytes-at (w .bytes) 79 all) tc
+  take-fits tc = take-small c (is-byte (registersRow + dorAt)) (is-byte fifoRow) (is-byte resultRow) tc
 
   -- a call of the record alone
   plain : (call : BelCall) (own : Call) → wordTo call w ≡ wordFrom (w .bytes) (answerTo own c) → NoPower own

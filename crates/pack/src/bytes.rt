@@ -1,9 +1,7 @@
 // A flag, a number of 16 bits and an enum as bytes of the record, and read back.
-use chip::codes::Kind;
 use sectors::order::Pass;
 ghost use mathlib.Core.Path.{_≡_};
 ghost use Prim.Native.Nat.{_+_, _*_, _/_, _%_};
-ghost use Rattle.chip.specs.Commands.{kindNumber, kindNumbered};
 ghost use Rattle.pack.specs.Bytes.{bitOf, highOf, lowOf, wideOf, passNumber, passNumbered};
 
 pub fn bit(flag: bool) -> u8
@@ -43,46 +41,4 @@ pub fn pass_numbered(n: u8) -> Pass
     ensures { λ r. ⌜ r ≡ passNumbered n ⌝ }
 {
     if n == 0 { Pass::Read } else { Pass::Write }
-}
-
-pub fn kind_number(kind: Kind) -> u8
-    ensures { λ r. ⌜ r ≡ kindNumber kind ⌝ }
-{
-    match kind {
-        Kind::Unknown => 0,
-        Kind::ReadData => 1,
-        Kind::ReadDeleted => 2,
-        Kind::WriteData => 3,
-        Kind::WriteDeleted => 4,
-        Kind::ReadId => 5,
-        Kind::Format => 6,
-        Kind::Recalibrate => 7,
-        Kind::SenseInterrupt => 8,
-        Kind::Specify => 9,
-        Kind::SenseDrive => 10,
-        Kind::Seek => 11,
-        Kind::Version => 12,
-        Kind::Configure => 13,
-    }
-}
-
-pub fn kind_numbered(n: u8) -> Kind
-    ensures { λ r. ⌜ r ≡ kindNumbered n ⌝ }
-{
-    match n {
-        1 => Kind::ReadData,
-        2 => Kind::ReadDeleted,
-        3 => Kind::WriteData,
-        4 => Kind::WriteDeleted,
-        5 => Kind::ReadId,
-        6 => Kind::Format,
-        7 => Kind::Recalibrate,
-        8 => Kind::SenseInterrupt,
-        9 => Kind::Specify,
-        10 => Kind::SenseDrive,
-        11 => Kind::Seek,
-        12 => Kind::Version,
-        13 => Kind::Configure,
-        _ => Kind::Unknown,
-    }
 }

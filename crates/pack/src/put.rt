@@ -1,7 +1,6 @@
 // The record written to its bytes.
 use crate::bytes::bit;
 use crate::bytes::high;
-use crate::bytes::kind_number;
 use crate::bytes::low;
 use crate::bytes::pass_number;
 use crate::drives::drive_row;
@@ -24,6 +23,7 @@ use crate::places::SPOT_ROW;
 use crate::places::TASK_ROW;
 use crate::places::VERSION;
 use crate::rows::put_row;
+use chip::codes::kind_number;
 use chip::fifo::Fifo;
 use drive::Drive;
 use fdc::record::Bytes;

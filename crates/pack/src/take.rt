@@ -1,5 +1,4 @@
 // The record read from its bytes.
-use crate::bytes::kind_numbered;
 use crate::bytes::pass_numbered;
 use crate::bytes::wide;
 use crate::drives::drive_in;
@@ -79,6 +78,7 @@ use crate::places::WORK_AT;
 use crate::places::WRONG_AT;
 use crate::rows::row_at;
 use chip::codes::Entry;
+use chip::codes::kind_numbered;
 use chip::fifo::Fifo;
 use drive::Drive;
 use fdc::record::Bytes;
