@@ -187,7 +187,8 @@ module _ (order : Order) (head : ℕ) (fifo : Fifo) where
   module _ (g : Geometry) where
     begin-no-track : NoTrack g head (order .side) → beginOf order (Present g) head fifo ≡ failsAt order head 0x01
     unfolding beginOf gateOf enteredOf
-    begin-no-track h = rw (no-track-false g head (order .side) h, given-first (order .job) (order .side) head)
+    begin-no-track h =
+        rw (no-track-false g head (order .side) h, given-first (order .job) (order .side) head)
 
     begin-protected : OnTrack g head (order .side) → Changes (order .job) → g .protect ≡ true
         → beginOf order (Present g) head fifo ≡ failsAt order head 0x02

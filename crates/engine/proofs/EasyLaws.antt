@@ -27,7 +27,7 @@ use Rattle.sectors.specs.declared.work.Work.the-variants.{Identifying, Moving, 
 use Rattle.sectors.specs.Follow.{followedOf, followOf}
 use Rattle.engine.specs.ReadId.{noAddress}
 use Rattle.sectors.specs.Result.{endOf, moveEnd, moveFails}
-use Rattle.sectors.specs.Track.{dataPlace, passBytes}
+use Rattle.sectors.specs.Track.{dataPlace, sectorBytes}
 use Rattle.sectors.specs.Write.{underrun, putOf, dryOf, storeOf}
 
 -- the address of a result, or of the sector now in hand
@@ -100,8 +100,8 @@ module _ (slot done : ℕ) (site : Site) (task : Task) (head : ℕ) (fifo : Fifo
   unfolding dryOf underrun
   dry-there = by-test (fifo .tc) There _ _ (λ t. put-there 0 fifo) (λ t. fails-there)
 
-  pub store-data-before-mark : done < passBytes site → There (storeOf slot done site task head fifo efifo fifothr)
+  pub store-data-before-mark : done < sectorBytes site → There (storeOf slot done site task head fifo efifo fifothr)
   unfolding storeOf
   store-data-before-mark h =
-      rw (lt-leb (passBytes site) done h)
+      rw (lt-leb (sectorBytes site) done h)
       (by-test (eqb (fifo .count) 0) There _ _ (λ t. dry-there) (λ t. put-there _ _))

@@ -50,12 +50,12 @@ use Rattle.engine.specs.First.{writes, taskOf, movingOf, startOf, entere
 use Rattle.sectors.specs.Follow.{freshAt, followedOf, followOf, turnOf}
 use Rattle.engine.specs.Format.{formatEnd, formsOf, formWait, formAwait, addressPut, addressOf, clearOn, formedOf, fillOf, clearOf, formOf}
 use Rattle.engine.specs.Kept.{suits, suited, jobFlow, thenWait, thenSuited, thenFlow, thenDrive, thenFifo, storePlace, Kept}
-use Rattle.sectors.specs.Read.{overrun, lastByte, readOn, readOf, drainedOf, drainOf}
+use Rattle.sectors.specs.Read.{overrun, sectorOver, readOn, readOf, drainedOf, drainOf}
 use Rattle.engine.specs.ReadId.{noIdOf, noIdHere, idHere, identifiedOf, identifyOf}
 use Rattle.sectors.specs.Result.{endOf, moveEnd, moveFails, movesOf}
 use Rattle.sectors.specs.Search.{matches, secondPass, notFound, missedOf, withOther, readFound, dataFound, bareFound, lookedOf, searchOf}
 use Rattle.engine.specs.Step.{lostOf, stageOf, workOf, goOnOf, siteOf, passFlow, fromHost, flowOf, waitOf, driveOf, stageWait}
-use Rattle.sectors.specs.Track.{hasTrack, staysOf, passBytes, sectorBytes, dataPlace, markPlace}
+use Rattle.sectors.specs.Track.{hasTrack, staysOf, sectorBytes, dataPlace, markPlace}
 use Rattle.sectors.specs.Write.{underrun, awaitOf, putOf, dryOf, writtenOf, storeOf}
 
 -- a pass from the host may store
@@ -230,7 +230,7 @@ module _ (efifo : Bool) (f : Fifo) (ok : Bool) where
         → Moved site task (readOn sector done site task fifo)
     unfolding readOn
     read-on-kept sector done fifo s p =
-        by-test (lastByte site done) (Moved site task) _ _
+        by-test (sectorOver site done) (Moved site task) _ _
         (λ t. moves-kept site task (Draining sector 0) fifo Nothing (omega arith) s p (λ o h. refl) (omega arith))
         (λ t. moves-kept site task (Reading sector (done + 1)) fifo Nothing (omega arith) s p (λ o h. refl)
         (omega arith))
@@ -304,7 +304,7 @@ module _ (efifo : Bool) (f : Fifo) (ok : Bool) where
         → Moved site task (storeOf slot done site task head f efifo fifothr)
     unfolding storeOf
     store-kept slot done head fifothr s =
-        by-test (leb (passBytes site) done) (Moved site task) _ _
+        by-test (leb (sectorBytes site) done) (Moved site task) _ _
         (λ t. written-kept slot head s)
         (λ t. by-test (eqb (f .count) 0) (Moved site task) _ _
         (λ u. dry-kept slot done head s)
