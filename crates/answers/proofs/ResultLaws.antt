@@ -415,7 +415,7 @@ module _ (c : Controller) (site : Site) (task : Task) (a b : List ℕ) where
   follow-tc : (slot : ℕ) (fifo : Fifo) (effect : Effect) (work : Task)
       → followOf slot true site work fifo effect
       ≡ endOf true (site .drive) (site .side) 0x00 (otherBit (work .other) + 0x00)
-      (advancedOf (work .id) (work .transfer .eot) (work .transfer .mt) (site .side)) effect
+      (advancedOf (work .id) (work .transfer .eot) (work .transfer .mt) (site .side) 1) effect
   unfolding followOf nextOf followedOf moveEnd
   follow-tc slot fifo effect work = refl
 
@@ -423,7 +423,7 @@ module _ (c : Controller) (site : Site) (task : Task) (a b : List ℕ) where
       → (work .transfer .mt && eqb (site .side) 0) ≡ false
       → followOf slot false site work fifo effect
       ≡ endOf false (site .drive) (site .side) 0x80 (otherBit (work .other) + 0x00)
-      (advancedOf (work .id) (work .transfer .eot) (work .transfer .mt) (site .side)) effect
+      (advancedOf (work .id) (work .transfer .eot) (work .transfer .mt) (site .side) 1) effect
   unfolding followOf nextOf followedOf moveEnd
   follow-eot slot fifo effect work e m = rw (eq-eqb (work .id .r) (work .transfer .eot) e, m)
 

@@ -237,7 +237,7 @@ pub data AtNext (c : Controller) (site : Site) (task : Task) (a b : List ℕ) (s
 
 -- 01 Result: when Next ends it the address is the next one
 abbrev pub nextId : Site → Task → Id
-nextId site task = advancedOf (task .id) (task .transfer .eot) (task .transfer .mt) (site .side)
+nextId site task = advancedOf (task .id) (task .transfer .eot) (task .transfer .mt) (site .side) 1
 
 pub record NextEnds (c : Controller) (site : Site) (task : Task) (a b : List ℕ) : Type 0 where
   -- TC ends the command normally

@@ -353,7 +353,7 @@ module _ (img : List ℕ) (head slot : ℕ) (site : Site) (task : Task) (fifo : 
   next-left o (steps t n e) s =
       rw (
         e,
-        advanced-below (task .id) (task .transfer .eot) (task .transfer .mt) (site .side) n,
+        advanced-below (task .id) (task .transfer .eot) (task .transfer .mt) (site .side) 1 n,
         ahead-same img head site (storedIn effect img) s (after (task .id .r)) (task .transfer .eot),
         later-step img site head (task .id .r) (task .transfer .eot) n,
       )
@@ -366,7 +366,8 @@ module _ (img : List ℕ) (head slot : ℕ) (site : Site) (task : Task) (fifo : 
       rw e (
         refl,
         (
-          (omega (arith, advanced-r-at-eot (task .id) (task .transfer .eot) (task .transfer .mt) (site .side) a), w .1),
+          (omega (arith, advanced-r-at-eot (task .id) (task .transfer .eot) (task .transfer .mt) (site .side) 1 a),
+          w .1),
           (next-slot-below slot (site .disk .slots) h, refl),
         ),
       )
@@ -375,7 +376,7 @@ module _ (img : List ℕ) (head slot : ℕ) (site : Site) (task : Task) (fifo : 
         refl,
         (
           (
-            rw (advanced-below (task .id) (task .transfer .eot) (task .transfer .mt) (site .side) n) (omega arith),
+            rw (advanced-below (task .id) (task .transfer .eot) (task .transfer .mt) (site .side) 1 n) (omega arith),
             w .1,
           ),
           (next-slot-below slot (site .disk .slots) h, omega arith),

@@ -424,7 +424,7 @@ module _ (g : Geometry) (cylinder drive : ℕ) (transfer : Transfer) (aim : Aim)
           stream′ : Stream (h .host) (held fifo) (suc (length (h .finished)) * sizeOf (g .n)) (fifo .tc)
           stream′ = rw k-is at (b .stream)
 
-          address-is : verdict .id ≡ advancedOf (task .id) (task .transfer .eot) (task .transfer .mt) (site .side)
+          address-is : verdict .id ≡ advancedOf (task .id) (task .transfer .eot) (task .transfer .mt) (site .side) 1
               → verdict .id ≡ aimNo transfer aim (suc (length (h .finished))) .id
           address-is e = e ∙ rw (b .id, b .told-to, b .side)
 

@@ -67,7 +67,7 @@ pub record NextEnds (tc : Bool) (site : Site) (task : Task) (verdict : Verdict) 
   pub st0 : verdict .st0 ≡ st0Of tc (site .drive) (site .side)
   pub st1 : verdict .st1 ≡ cond tc 0x00 0x80
   pub st2 : verdict .st2 ≡ otherBit (task .other)
-  pub id : verdict .id ≡ advancedOf (task .id) (task .transfer .eot) (task .transfer .mt) (site .side)
+  pub id : verdict .id ≡ advancedOf (task .id) (task .transfer .eot) (task .transfer .mt) (site .side) 1
   pub eot : tc ≡ false → task .id .r ≡ task .transfer .eot
   pub no-turn : tc ≡ false → task .transfer .mt ≡ true → site .side ≡ 0 → ⊥
 
@@ -78,11 +78,11 @@ pub data NextRule (tc : Bool) (slot : ℕ) (site : Site) (task : Task) (fifo : F
       → NextRule tc slot site task fifo effect o
   turns : tc ≡ false → task .id .r ≡ task .transfer .eot → task .transfer .mt ≡ true → site .side ≡ 0
       → o ≡ movesOf (Turning (nextSlot slot (site .disk .slots))) (onSide 1 site)
-      (withId (advancedOf (task .id) (task .transfer .eot) (task .transfer .mt) (site .side)) task) fifo effect
+      (withId (advancedOf (task .id) (task .transfer .eot) (task .transfer .mt) (site .side) 1) task) fifo effect
       → NextRule tc slot site task fifo effect o
   steps : tc ≡ false → (task .id .r ≡ task .transfer .eot → ⊥)
       → o ≡ movesOf (Searching (freshAt (nextSlot slot (site .disk .slots)))) site
-      (withId (advancedOf (task .id) (task .transfer .eot) (task .transfer .mt) (site .side)) task) fifo effect
+      (withId (advancedOf (task .id) (task .transfer .eot) (task .transfer .mt) (site .side) 1) task) fifo effect
       → NextRule tc slot site task fifo effect o
 
 -- 01 Read: one byte further: the FIFO gets the sector's byte, unless TC came; it was not full

@@ -56,17 +56,17 @@ module _ (slot : ℕ) (site : Site) (task : Task) (fifo : Fifo) (effect : Effect
   -- 01 Easy 1: whatever follows a sector, its address is the one after it, advanced once
   pub follow-advances-once : (tc : Bool)
       → thenId (followOf slot tc site task fifo effect .then)
-      ≡ advancedOf (task .id) (task .transfer .eot) (task .transfer .mt) (site .side)
+      ≡ advancedOf (task .id) (task .transfer .eot) (task .transfer .mt) (site .side) 1
   unfolding followOf
   follow-advances-once tc = followed-id _ ∙ next-address (task .id) (task .transfer .eot) (task .transfer .mt)
-      (site .side) tc
+      (site .side) 1 tc
 
   followed-normal : (tc : Bool) (n : Next)
-      → nextOf (task .id) (task .transfer .eot) (task .transfer .mt) (site .side) tc ≡ n
+      → nextOf (task .id) (task .transfer .eot) (task .transfer .mt) (site .side) 1 tc ≡ n
       → thenSt0 (followedOf n slot site task fifo effect .then) < 0x40 → tc ≡ true
   unfolding followedOf moveEnd endOf
   followed-normal tc (Ended id) e h =
-      next-ended-tc (task .id) (task .transfer .eot) (task .transfer .mt) (site .side) tc id e
+      next-ended-tc (task .id) (task .transfer .eot) (task .transfer .mt) (site .side) 1 tc id e
   followed-normal tc (PastEot id) e h = absurd (omega arith)
   followed-normal tc (OtherSide id) e h = absurd (omega arith)
   followed-normal tc (SameSide id) e h = absurd (omega arith)
