@@ -611,10 +611,10 @@ module _ (img : List ℕ) (head : ℕ) (site : Site) (plan : Plan) (fifo : Fifo)
       (λ t. clear-on-falls (Filling slot done) slot effect w
       (λ k. omega (arith, le-mul-of-pos-right (slots - 1 - slot) b-pos)))
 
-  fill-falls : (slot done : ℕ) → ProperForm site (Filling slot done)
-      → Form-falls (Filling slot done) (fillOf slot done site plan head fifo)
+  fill-falls : (slot done : ℕ) (efifo : Bool) (fifothr : ℕ) → ProperForm site (Filling slot done)
+      → Form-falls (Filling slot done) (fillOf slot done site plan head fifo efifo fifothr)
   unfolding fillOf formLeft
-  fill-falls slot done w =
+  fill-falls slot done efifo fifothr w =
       by-test (leb (sectorBytes site) done) (Form-falls (Filling slot done)) _ _
       (λ t. formed-falls slot done _ w)
       (λ t. let l = leb-false (sectorBytes site) done t in
@@ -625,7 +625,7 @@ module _ (img : List ℕ) (head : ℕ) (site : Site) (plan : Plan) (fifo : Fifo)
   unfolding formOf clearOf formLeft
   form-falls (form.Awaiting slot wait) efifo fifothr w = await-falls slot wait w
   form-falls (Addressing slot k) efifo fifothr w = address-falls slot k efifo fifothr w
-  form-falls (Filling slot done) efifo fifothr w = fill-falls slot done w
+  form-falls (Filling slot done) efifo fifothr w = fill-falls slot done efifo fifothr w
   form-falls (Clearing slot) efifo fifothr w = clear-on-falls (Clearing slot) slot _ w (λ k. omega arith)
 
 -- a tick after the first, of any work: fewer ticks are left

@@ -414,9 +414,9 @@ module _ (efifo : Bool) (f : Fifo) (ok : Bool) where
         (λ t. forms-kept (form.Awaiting (slot + 1) 0) f effect (omega arith) (λ p. p) b)
         (λ t. clear-on-kept slot effect b)
 
-    fill-kept : (slot done : ℕ) → Formed site (fillOf slot done site plan head f)
+    fill-kept : (slot done fifothr : ℕ) → Formed site (fillOf slot done site plan head f efifo fifothr)
     unfolding fillOf
-    fill-kept slot done =
+    fill-kept slot done fifothr =
         by-test (leb (sectorBytes site) done) (Formed site) _ _
         (λ t. formed-kept slot _ (mark-behind site head slot))
         (λ t. forms-kept (Filling slot (done + 1)) f _ (omega arith) (λ p. p) (data-behind site head slot done))
@@ -429,7 +429,7 @@ module _ (efifo : Bool) (f : Fifo) (ok : Bool) where
     unfolding formOf
     form-kept (form.Awaiting slot wait) fifothr = form-await-kept slot wait
     form-kept (Addressing slot k) fifothr = address-kept slot k fifothr
-    form-kept (Filling slot done) fifothr = fill-kept slot done
+    form-kept (Filling slot done) fifothr = fill-kept slot done fifothr
     form-kept (Clearing slot) fifothr = clear-kept slot
 
 stage-kept : (stage : Stage) (site : Site) (task : Task) (head : ℕ) (img : List ℕ) (fifo : Fifo) (efifo : Bool)
