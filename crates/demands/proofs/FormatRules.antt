@@ -45,7 +45,7 @@ absent≢present g e = let z : _≡_ {A = ℕ} 0 1 = cc in omega arith
 -- 01 Format, Result: what an end says
 abbrev pub formVerdict : Bool → ℕ → ℕ → ℕ → ℕ → Plan → ℕ → Verdict
 formVerdict normal st1 done drive side plan head =
-    record { st0 = st0Of normal drive side; st1 = st1; st2 = 0x00; id = formatId plan head side done }
+    record { st0 = st0Of normal drive side; st1 = st1; st2 = 0x00; id = formatId plan drive head side done }
 
 -- the first tick
 module _ (drive side : ℕ) (plan : Plan) (head : ℕ) (fifo : Fifo) where

@@ -1,3 +1,4 @@
 pub mod EasyLaws
 pub mod Examples
+pub mod FormatLaws
 pub mod KeptLaws

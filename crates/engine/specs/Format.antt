@@ -21,13 +21,18 @@ use Rattle.sectors.specs.declared.work.Work.the-variants.{Formatting}
 use Rattle.sectors.specs.Result.{endOf, goesOf}
 use Rattle.sectors.specs.Track.{dataPlace, markPlace, sectorBytes}
 
--- 01 Format: C H R N: head (0 for drives 2, 3), side, slots done, N, at every end (R14)
-abbrev pub formatId : Plan → ℕ → ℕ → ℕ → Id
-formatId plan head side done = record { c = head; h = side; r = done; n = plan .n }
+-- 01 Format: head (0 for drives 2, 3), whatever a record holds for those
+abbrev pub formatHead : ℕ → ℕ → ℕ
+formatHead drive head = cond (ltb drive 2) head 0
+
+-- 01 Format: C H R N: head, side, slots done, N, at every end (R14)
+abbrev pub formatId : Plan → ℕ → ℕ → ℕ → ℕ → Id
+formatId plan drive head side done =
+    record { c = formatHead drive head; h = side; r = done; n = plan .n }
 
 unfoldable pub formatEnd : Bool → ℕ → ℕ → Effect → Site → Plan → ℕ → Step
 formatEnd normal st1 done effect site plan head =
-    endOf normal (site .drive) (site .side) st1 0x00 (formatId plan head (site .side) done) effect
+    endOf normal (site .drive) (site .side) st1 0x00 (formatId plan (site .drive) head (site .side) done) effect
 
 -- slots done counts formatted slots: SC from the last of them on (R14)
 abbrev pub doneOf : Form → Plan → ℕ

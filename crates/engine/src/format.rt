@@ -17,6 +17,7 @@ use sectors::work::Work;
 ghost use mathlib.Core.Path.{_≡_};
 ghost use Prim.Native.Nat.{_<_};
 ghost use Rattle.engine.specs.Format.{
+  formatHead,
   formatId,
   formatEnd,
   doneOf,
@@ -33,11 +34,23 @@ ghost use Rattle.engine.specs.Format.{
   formOf,
 };
 
-pub fn format_id(plan: Plan, head: u8, side: u8, done: u8) -> Id
-    ensures { λ r. ⌜ r ≡ formatId plan head side done ⌝ }
+// Drives 2 and 3 have no head.
+fn format_head(drive: u8, head: u8) -> u8
+    ensures { λ r. ⌜ r ≡ formatHead drive head ⌝ }
 {
+    let real = drive < 2;
+    if real {
+        return head;
+    }
+    0
+}
+
+pub fn format_id(plan: Plan, drive: u8, head: u8, side: u8, done: u8) -> Id
+    ensures { λ r. ⌜ r ≡ formatId plan drive head side done ⌝ }
+{
+    let c = format_head(drive, head);
     Id {
-        c: head,
+        c,
         h: side,
         r: done,
         n: plan.n,
@@ -55,7 +68,7 @@ pub fn format_end(
 ) -> Step
     ensures { λ r. ⌜ r ≡ formatEnd normal st1 done effect site plan head ⌝ }
 {
-    let id = format_id(plan, head, site.side, done);
+    let id = format_id(plan, site.drive, head, site.side, done);
     end(normal, site.drive, site.side, st1, 0x00, id, effect)
 }
 

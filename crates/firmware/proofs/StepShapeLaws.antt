@@ -86,7 +86,7 @@ room-filled efifo fifothr last byte f =
 pub room-given : (efifo tc : Bool) (byte : ℕ) (f : Fifo) → Room efifo f (givenOf efifo tc byte f)
 unfolding givenOf
 room-given efifo tc byte f =
-    by-test (fullOf efifo f) (Room efifo f) _ _ (λ t. room-same efifo f)
+    by-test (fullOf efifo f) (Room efifo f) _ _ (λ t. record { sixteen = λ h. h; within = λ h. h })
     (λ t. record {
       sixteen = λ h. length-set (f .bytes) (f .count) byte ∙ h;
       within = λ h. omega (arith, leb-false (capacityOf efifo) (f .count) t);
