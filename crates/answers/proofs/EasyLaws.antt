@@ -65,7 +65,7 @@ module _ (c : Controller) (site : Site) (task : Task) (a b : List ℕ) (stage : 
   goes-on : (slot : ℕ) (effect : Effect) (work : Task) → (work .id .r ≡ work .transfer .eot → ⊥)
       → followOf slot false site work (c .fifo) effect
       ≡ movesOf (Searching (freshAt (nextSlot slot (site .disk .slots)))) site
-      (withId (advancedOf (work .id) (work .transfer .eot) (work .transfer .mt) (site .side)) work) (c .fifo) effect
+      (withId (advancedOf (work .id) (work .transfer .eot) (work .transfer .mt) (site .side) 1) work) (c .fifo) effect
   unfolding followOf nextOf followedOf
   goes-on slot effect work n = rw (ne-eqb (work .id .r) (work .transfer .eot) n)
 
@@ -73,7 +73,7 @@ module _ (c : Controller) (site : Site) (task : Task) (a b : List ℕ) (stage : 
       → (work .transfer .mt && eqb (site .side) 0) ≡ true
       → followOf slot false site work (c .fifo) effect
       ≡ movesOf (Turning (nextSlot slot (site .disk .slots))) (onSide 1 site)
-      (withId (advancedOf (work .id) (work .transfer .eot) (work .transfer .mt) (site .side)) work) (c .fifo) effect
+      (withId (advancedOf (work .id) (work .transfer .eot) (work .transfer .mt) (site .side) 1) work) (c .fifo) effect
   unfolding followOf nextOf followedOf
   turns-over slot effect work e m = rw (eq-eqb (work .id .r) (work .transfer .eot) e, m)
 
@@ -89,7 +89,7 @@ module _ (c : Controller) (site : Site) (task : Task) (a b : List ℕ) (stage : 
       (ap (λ (x : Controller). x .phase) (followed false d slot effect work e)
       ∙ ap (λ (s : Step). settledOf (s .then) (s .fifo) c .phase) (goes-on slot effect work below)
       ∙ settled-works _ _)
-      (ap (λ (x : Id). x .r) (advanced-below (work .id) (work .transfer .eot) (work .transfer .mt) (site .side) below)
+      (ap (λ (x : Id). x .r) (advanced-below (work .id) (work .transfer .eot) (work .transfer .mt) (site .side) 1 below)
       ∙ rw i)
 
   seeks-turned : During c (Moving site task stage) a b → task .id .r ≡ task .transfer .eot
@@ -102,7 +102,7 @@ module _ (c : Controller) (site : Site) (task : Task) (a b : List ℕ) (stage : 
       (ap (λ (x : Controller). x .phase) (followed false d slot effect work e)
       ∙ ap (λ (s : Step). settledOf (s .then) (s .fifo) c .phase) (turns-over slot effect work at-eot turns)
       ∙ settled-works _ _)
-      (advanced-r-at-eot (work .id) (work .transfer .eot) (work .transfer .mt) (site .side) at-eot)
+      (advanced-r-at-eot (work .id) (work .transfer .eot) (work .transfer .mt) (site .side) 1 at-eot)
 
   settled-ends : (v : Verdict) (fifo : Fifo) → resultByte 0 (settledOf (Ends v) fifo c) ≡ v .st0
   unfolding settledOf withFifo answeredOf
@@ -132,9 +132,9 @@ module _ (c : Controller) (site : Site) (task : Task) (a b : List ℕ) (stage : 
   easy-next = record {
     r-once = λ d n h.
         r-byte d n
-        ∙ ap (λ (x : Id). x .r) (advanced-below (task .id) (task .transfer .eot) (task .transfer .mt) (site .side) h);
+        ∙ ap (λ (x : Id). x .r) (advanced-below (task .id) (task .transfer .eot) (task .transfer .mt) (site .side) 1 h);
     r-at-eot = λ d n h.
-        r-byte d n ∙ advanced-r-at-eot (task .id) (task .transfer .eot) (task .transfer .mt) (site .side) h;
+        r-byte d n ∙ advanced-r-at-eot (task .id) (task .transfer .eot) (task .transfer .mt) (site .side) 1 h;
     r-goes-on = λ d n h. seeks-on d h (at-next c site task a b stage false other n);
     r-turns = λ d n h m z. seeks-turned d h m z (at-next c site task a b stage false other n);
     no-tc = λ d n p. no-tc d (at-next c site task a b stage false other n) p;

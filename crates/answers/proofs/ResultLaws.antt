@@ -148,26 +148,27 @@ misplanned-true plan g (inl h) = rw (ne-eqb _ _ h)
 misplanned-true plan g (inr (inl h)) = simp (eq-eqb _ _ h, or-true)
 misplanned-true plan g (inr (inr h)) = simp (lt-ltb _ _ h, or-true)
 
-given-first : (job : Job) (side head : ℕ) → givenId job side head ≡ firstId job side head
+given-first : (job : Job) (drive side head : ℕ) → givenId job drive side head ≡ firstId job drive side head
 unfolding givenId
-given-first Identify side head = refl
-given-first (Move transfer id) side head = refl
-given-first (Format plan) side head = refl
+given-first Identify drive side head = refl
+given-first (Move transfer id) drive side head = refl
+given-first (Format plan) drive side head = refl
 
 -- each test's end
 abbrev failsAt : Order → ℕ → ℕ → Step
 failsAt order head st1 =
-    endOf false (order .drive) (order .side) st1 0x00 (firstId (order .job) (order .side) head) Nothing
+    endOf false (order .drive) (order .side) st1 0x00 (firstId (order .job) (order .drive) (order .side) head) Nothing
 
 module _ (order : Order) (head : ℕ) (fifo : Fifo) where
   begin-empty : beginOf order Absent head fifo ≡ failsAt order head 0x01
   unfolding beginOf gateOf enteredOf
-  begin-empty = rw (given-first (order .job) (order .side) head)
+  begin-empty = rw (given-first (order .job) (order .drive) (order .side) head)
 
   module _ (g : Geometry) where
     begin-no-track : NoTrack g head (order .side) → beginOf order (Present g) head fifo ≡ failsAt order head 0x01
     unfolding beginOf gateOf enteredOf
-    begin-no-track h = rw (no-track-false g head (order .side) h, given-first (order .job) (order .side) head)
+    begin-no-track h =
+        rw (no-track-false g head (order .side) h, given-first (order .job) (order .drive) (order .side) head)
 
     begin-protected : OnTrack g head (order .side) → Changes (order .job) → g .protect ≡ true
         → beginOf order (Present g) head fifo ≡ failsAt order head 0x02
@@ -177,7 +178,7 @@ module _ (order : Order) (head : ℕ) (fifo : Fifo) where
           on-track-true g head (order .side) h,
           changes-true (order .job) w,
           p,
-          given-first (order .job) (order .side) head,
+          given-first (order .job) (order .drive) (order .side) head,
         )
 
     begin-misplanned : (plan : Plan) → OnTrack g head (order .side) → order .job ≡ Format plan → g .protect ≡ false
@@ -189,7 +190,7 @@ module _ (order : Order) (head : ℕ) (fifo : Fifo) where
           p,
           j,
           misplanned-true plan g m,
-          given-first (Format plan) (order .side) head,
+          given-first (Format plan) (order .drive) (order .side) head,
         )
 
 first-ends : FirstEnds
@@ -394,7 +395,7 @@ module _ (c : Controller) (site : Site) (task : Task) (a b : List ℕ) where
   follow-tc : (slot : ℕ) (fifo : Fifo) (effect : Effect) (work : Task)
       → followOf slot true site work fifo effect
       ≡ endOf true (site .drive) (site .side) 0x00 (otherBit (work .other) + 0x00)
-      (advancedOf (work .id) (work .transfer .eot) (work .transfer .mt) (site .side)) effect
+      (advancedOf (work .id) (work .transfer .eot) (work .transfer .mt) (site .side) 1) effect
   unfolding followOf nextOf followedOf moveEnd
   follow-tc slot fifo effect work = refl
 
@@ -402,7 +403,7 @@ module _ (c : Controller) (site : Site) (task : Task) (a b : List ℕ) where
       → (work .transfer .mt && eqb (site .side) 0) ≡ false
       → followOf slot false site work fifo effect
       ≡ endOf false (site .drive) (site .side) 0x80 (otherBit (work .other) + 0x00)
-      (advancedOf (work .id) (work .transfer .eot) (work .transfer .mt) (site .side)) effect
+      (advancedOf (work .id) (work .transfer .eot) (work .transfer .mt) (site .side) 1) effect
   unfolding followOf nextOf followedOf moveEnd
   follow-eot slot fifo effect work e m = rw (eq-eqb (work .id .r) (work .transfer .eot) e, m)
 
@@ -501,8 +502,8 @@ module _ (c : Controller) (site : Site) (plan : Plan) (a b : List ℕ) where
 
   abbrev endAt : Bool → ℕ → ℕ → Effect → Step
   endAt normal st1 done effect =
-      endOf normal (site .drive) (site .side) st1 0x00 (formattedId plan (headAt (site .drive) c) (site .side) done)
-      effect
+      endOf normal (site .drive) (site .side) st1 0x00
+      (formattedId plan (site .drive) (headAt (site .drive) c) (site .side) done) effect
 
   form-await : (slot wait : ℕ) → c .fifo .count ≡ 0 → 63 ≤ wait
       → formed (form.Awaiting slot wait) ≡ endAt false 0x10 slot Nothing
@@ -534,7 +535,7 @@ module _ (c : Controller) (site : Site) (plan : Plan) (a b : List ℕ) where
   formats-by : (f : Form) (normal : Bool) (st1 done : ℕ) (effect : Effect) → During c (Formatting site plan f) a b
       → formed f ≡ endAt normal st1 done effect
       → Result (after (ticks a b) c) (st0Of normal (site .drive) (site .side)) st1 0x00
-      (formattedId plan (headAt (site .drive) c) (site .side) done)
+      (formattedId plan (site .drive) (headAt (site .drive) c) (site .side) done)
   formats-by f normal st1 done effect d e =
       result c a b (site .drive) normal _ _ _ _ _ _ (later-is c a b (Formatting site plan f) _ d e)
 

@@ -54,10 +54,10 @@ pub record CheckedExamples : Type 0 where
   pub ex4-second-side : offsetOf (disk 80 2 18 2) 0 1 0 ≡ 9324
   pub ex4-last : offsetOf (disk 80 2 18 2) 79 1 17 ≡ 1489251
   -- 5. C 4 H 0 R 8 EOT 9: next 4 0 9; R 9: 5 0 1; MT: 4 1 1; MT, side 1, 4 1 9: 5 0 1
-  pub ex5-within : advancedOf (chr 4 0 8) 9 false 0 ≡ chr 4 0 9
-  pub ex5-eot : advancedOf (chr 4 0 9) 9 false 0 ≡ chr 5 0 1
-  pub ex5-mt : advancedOf (chr 4 0 9) 9 true 0 ≡ chr 4 1 1
-  pub ex5-mt-side-1 : advancedOf (chr 4 1 9) 9 true 1 ≡ chr 5 0 1
+  pub ex5-within : advancedOf (chr 4 0 8) 9 false 0 1 ≡ chr 4 0 9
+  pub ex5-eot : advancedOf (chr 4 0 9) 9 false 0 1 ≡ chr 5 0 1
+  pub ex5-mt : advancedOf (chr 4 0 9) 9 true 0 1 ≡ chr 4 1 1
+  pub ex5-mt-side-1 : advancedOf (chr 4 1 9) 9 true 1 1 ≡ chr 5 0 1
   -- 6. FIFOTHR 0, 7, 15, FIFO on: read request at 15, 8, 1
   pub ex6-thr-0 : readLevel false 0 ≡ 15
   pub ex6-thr-7 : readLevel false 7 ≡ 8

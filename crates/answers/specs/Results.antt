@@ -6,7 +6,7 @@ use mathlib.Core.Bool.{Bool, true, false, _&&_, _||_, not, cond}
 use mathlib.Core.List.{List, [], _∷_}
 use mathlib.Core.Logic.{_⊎_}
 use mathlib.Core.Path.{_≡_}
-use lib.Dec.{eqb}
+use lib.Dec.{eqb, ltb}
 use Rattle.chip.specs.Fifo.{capacityOf, emptied}
 use Rattle.chip.specs.Next.{advancedOf}
 use Rattle.sectors.specs.declared.order.Job.{Job}
@@ -77,9 +77,9 @@ OnTrack g head side = (head < g .cylinders) × (side < g .heads)
 abbrev pub zeros : Id
 zeros = record { c = 0; h = 0; r = 0; n = 0 }
 
--- 01 Format: C H R N: head, side, slots done, N
-abbrev pub formattedId : Plan → ℕ → ℕ → ℕ → Id
-formattedId plan head side done = record { c = head; h = side; r = done; n = plan .n }
+-- 01 Format: C H R N: head (0 for drives 2, 3), side, slots done, N
+abbrev pub formattedId : Plan → ℕ → ℕ → ℕ → ℕ → Id
+formattedId plan drive head side done = record { c = cond (ltb drive 2) head 0; h = side; r = done; n = plan .n }
 
 -- THE FIRST TICK of an accepted command
 
@@ -88,10 +88,10 @@ pub record Before (c : Controller) (order : Order) : Type 0 where
   pub accepted : c .phase ≡ Starting order
 
 -- 01 Result: other ends give the sector in hand
-abbrev pub firstId : Job → ℕ → ℕ → Id
-firstId Identify side head = zeros
-firstId (Move transfer id) side head = id
-firstId (Format plan) side head = formattedId plan head side 0
+abbrev pub firstId : Job → ℕ → ℕ → ℕ → Id
+firstId Identify drive side head = zeros
+firstId (Move transfer id) drive side head = id
+firstId (Format plan) drive side head = formattedId plan drive head side 0
 
 -- a Write or a Format
 abbrev pub Changes : Job → Type 0
@@ -106,7 +106,7 @@ Misplanned plan g = (plan .n ≡ g .n → ⊥) ⊎ ((plan .sc ≡ 0) ⊎ (g .slo
 abbrev pub FailsFirst : ℕ → Controller → Order → List ℕ → List ℕ → Type 0
 FailsFirst st1 c order a b =
     Result (after (ticks a b) c) (failedSt0 (order .side) (order .drive)) st1 0x00
-    (firstId (order .job) (order .side) (headAt (order .drive) c))
+    (firstId (order .job) (order .drive) (order .side) (headAt (order .drive) c))
 
 -- 01 Data commands: first tick, in this order
 pub record FirstEnds : Type 0 where
@@ -237,7 +237,7 @@ pub data AtNext (c : Controller) (site : Site) (task : Task) (a b : List ℕ) (s
 
 -- 01 Result: when Next ends it the address is the next one
 abbrev pub nextId : Site → Task → Id
-nextId site task = advancedOf (task .id) (task .transfer .eot) (task .transfer .mt) (site .side)
+nextId site task = advancedOf (task .id) (task .transfer .eot) (task .transfer .mt) (site .side) 1
 
 pub record NextEnds (c : Controller) (site : Site) (task : Task) (a b : List ℕ) : Type 0 where
   -- TC ends the command normally
@@ -269,20 +269,20 @@ pub record FormatEnds (c : Controller) (site : Site) (plan : Plan) (a b : List �
   pub no-byte : (slot wait : ℕ) → During c (Formatting site plan (form.Awaiting slot wait)) a b → c .fifo .count ≡ 0
       → 63 ≤ wait
       → Result (after (ticks a b) c) (failedSt0 (site .side) (site .drive)) 0x10 0x00
-      (formattedId plan (headAt (site .drive) c) (site .side) slot)
+      (formattedId plan (site .drive) (headAt (site .drive) c) (site .side) slot)
   -- a byte missing then ends it at once: ST1 10
   pub missing : (slot k : ℕ) → During c (Formatting site plan (form.Addressing slot k)) a b → c .fifo .count ≡ 0
       → Result (after (ticks a b) c) (failedSt0 (site .side) (site .drive)) 0x10 0x00
-      (formattedId plan (headAt (site .drive) c) (site .side) slot)
+      (formattedId plan (site .drive) (headAt (site .drive) c) (site .side) slot)
   -- the mark of the track's last slot: SC slots done
   pub filled : (slot done : ℕ) → During c (Formatting site plan (form.Filling slot done)) a b
       → sizeOf (site .disk .n) ≤ done → plan .sc ≤ slot + 1 → site .disk .slots ≤ slot + 1
       → Result (after (ticks a b) c) (normalSt0 (site .side) (site .drive)) 0x00 0x00
-      (formattedId plan (headAt (site .drive) c) (site .side) (plan .sc))
+      (formattedId plan (site .drive) (headAt (site .drive) c) (site .side) (plan .sc))
   -- after SC slots each slot left gets mark 0; the last of them
   pub cleared : (slot : ℕ) → During c (Formatting site plan (form.Clearing slot)) a b → site .disk .slots ≤ slot + 1
       → Result (after (ticks a b) c) (normalSt0 (site .side) (site .drive)) 0x00 0x00
-      (formattedId plan (headAt (site .drive) c) (site .side) (plan .sc))
+      (formattedId plan (site .drive) (headAt (site .drive) c) (site .side) (plan .sc))
 
 -- 01 Data commands: a drive emptied or header changed later: ST1 01 at that tick
 abbrev pub Lost : Disk → Geometry → Type 0
@@ -298,7 +298,7 @@ pub record LostEnds (c : Controller) (a b : List ℕ) : Type 0 where
   pub formats : (site : Site) (plan : Plan) (f : Form) → Real c → c .phase ≡ Working (Formatting site plan f)
       → Lost (diskOf (site .drive) a b c) (site .disk)
       → Result (after (ticks a b) c) (failedSt0 (site .side) (site .drive)) 0x01 0x00
-      (formattedId plan (headAt (site .drive) c) (site .side) (doneOf f plan))
+      (formattedId plan (site .drive) (headAt (site .drive) c) (site .side) (doneOf f plan))
 
 -- Demand 2, the whole table
 pub record ResultBytes : Type 0 where

@@ -112,19 +112,19 @@ fn addresses() {
     };
     address(
         b"01 Example 5: after 4 0 8, EOT 9: ",
-        chip::next::advance(first, 9, false, 0),
+        chip::next::advance(first, 9, false, 0, 1),
     );
     address(
         b"01 Example 5: after 4 0 9: ",
-        chip::next::advance(last, 9, false, 0),
+        chip::next::advance(last, 9, false, 0, 1),
     );
     address(
         b"01 Example 5: after 4 0 9 with MT: ",
-        chip::next::advance(last, 9, true, 0),
+        chip::next::advance(last, 9, true, 0, 1),
     );
     address(
         b"01 Example 5: after 4 1 9 with MT, side 1: ",
-        chip::next::advance(other, 9, true, 1),
+        chip::next::advance(other, 9, true, 1, 1),
     );
 }
 

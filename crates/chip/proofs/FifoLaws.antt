@@ -6,13 +6,13 @@ use mathlib.Core.List.{List, [], _∷_, _++_}
 use Prim.Native.Nat.{ℕ, zero, suc, _+_, _-_, _≤_, _<_}
 use native.Mathlib.Omega.{arith}
 use native.Mathlib.Numerals.{add-one}
-use borrow.Author.Tests.{leb-false, le-leb, lt-leb, lt-ltb, le-ltb}
-use lib.Dec.{leb}
+use borrow.Author.Tests.{eq-eqb, ne-eqb, eqb-true, leb-false, le-leb, lt-leb, lt-ltb, le-ltb}
+use lib.Dec.{eqb, leb}
 use lib.ListN.{length, getD, set, take, drop, replicate}
 use lib.ListN.{length-set, length-append, length-drop, take-append-drop, replicate-append-replicate}
 use lib.Seq.{length-take-le, take-suc-set, take-append-le, drop-append-le, drop-set-lt, drop-drop}
 use Rattle.chip.specs.declared.fifo.Fifo.{Fifo}
-use Rattle.chip.specs.Fifo.{capacityOf, readLevel, writeLevel, fullOf, held, frontOf, emptied, flagged, Fits, Over}
+use Rattle.chip.specs.Fifo.{capacityOf, readLevel, writeLevel, fullOf, held, frontOf, handedOf, emptied, flagged, Fits, Over}
 use Rattle.chip.specs.Fifo.{pushedOf, poppedOf, filledOf, takenOf, openedOf, givenOf, drawnOf}
 use Rattle.image.proofs.TestLaws.{by-test, or-right}
 
@@ -114,6 +114,28 @@ module _ (efifo tc : Bool) (byte : ℕ) (f : Fifo) (room : fullOf efifo f ≡ fa
   unfolding givenOf
   given-tc-over e = record { tc = simp (room, e, or-true); quiet = simp (room, e, and-false) }
 
+-- 01 FIFO, D-32: a full FIFO keeps what it holds, whatever comes with it, and its request is off
+pub given-full-drops : (efifo tc : Bool) (byte : ℕ) (f : Fifo) → fullOf efifo f ≡ true
+    → givenOf efifo tc byte f ≡ flagged false (f .tc) f
+unfolding givenOf
+given-full-drops efifo tc byte f t = rw t
+
+-- D-33: the host is handed 0 where none is held, else the oldest byte
+pub handed-empty : (f : Fifo) → f .count ≡ 0 → handedOf f ≡ 0
+handed-empty f e = rw (eq-eqb (f .count) 0 e)
+
+pub handed-some : (f : Fifo) → 0 < f .count → handedOf f ≡ frontOf f
+handed-some f l = rw (ne-eqb (f .count) 0 (λ e. omega arith))
+
+-- in every FIFO reached from an empty one that is the first of the array, since past the count stand zeros
+pub handed-fits : (efifo : Bool) (f : Fifo) → Fits efifo f → handedOf f ≡ frontOf f
+handed-fits efifo f p =
+    by-test (eqb (f .count) 0) (λ (x : ℕ). x ≡ frontOf f) _ _
+    (λ t. let z = eqb-true (f .count) 0 t in
+    let b : f .bytes ≡ replicate 16 0 = rw z at (p .past) in
+    sym (ap (λ (l : List ℕ). getD l 0 0) b))
+    (λ t. refl)
+
 -- A byte drawn from what the host gave, TC not come.
 module _ (efifo : Bool) (fifothr : ℕ) (f : Fifo) (going : f .tc ≡ false) where
   -- 01 FIFO: on again at T or fewer bytes left while below capacity, and not before
@@ -158,7 +180,7 @@ over-taken false f o = record { tc = o .tc; quiet = simp (o .quiet) }
 pub over-given : (efifo tc : Bool) (byte : ℕ) (f : Fifo) → Over f → Over (givenOf efifo tc byte f)
 unfolding givenOf
 over-given efifo tc byte f o =
-    by-test (fullOf efifo f) Over _ _ (λ t. o) (λ t. record { tc = simp (o .tc); quiet = simp (o .quiet) })
+    by-test (fullOf efifo f) Over _ _ (λ t. record { tc = o .tc; quiet = refl }) (λ t. record { tc = simp (o .tc); quiet = simp (o .quiet) })
 
 pub over-drawn : (efifo : Bool) (fifothr : ℕ) (f : Fifo) → Over f → Over (drawnOf efifo fifothr f)
 unfolding drawnOf
@@ -228,7 +250,8 @@ fits-opened efifo f p = fits-flagged efifo true (f .tc) f p
 pub fits-given : (efifo tc : Bool) (byte : ℕ) (f : Fifo) → Fits efifo f → Fits efifo (givenOf efifo tc byte f)
 unfolding givenOf
 fits-given efifo tc byte f p =
-    by-test (fullOf efifo f) (Fits efifo) _ _ (λ t. p) (λ t. fits-flagged efifo _ _ _ (fits-pushed efifo byte f t p))
+    by-test (fullOf efifo f) (Fits efifo) _ _ (λ t. fits-flagged efifo false (f .tc) f p)
+    (λ t. fits-flagged efifo _ _ _ (fits-pushed efifo byte f t p))
 
 pub fits-drawn : (efifo : Bool) (fifothr : ℕ) (f : Fifo) → Fits efifo f → Fits efifo (drawnOf efifo fifothr f)
 unfolding drawnOf

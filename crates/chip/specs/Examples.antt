@@ -24,10 +24,10 @@ pub record CheckedExamples : Type 0 where
   pub ex2-06 : entryOf 0x06 ≡ record { kind = Unknown; bytes = 1 }
   pub ex2-46 : entryOf 0x46 ≡ record { kind = ReadData; bytes = 9 }
   -- 01 Example 5: C 4 H 0 R 8 EOT 9: next 4 0 9; R 9: 5 0 1; MT: 4 1 1; MT, side 1, 4 1 9: 5 0 1
-  pub ex5-within : advancedOf (chr 4 0 8) 9 false 0 ≡ chr 4 0 9
-  pub ex5-eot : advancedOf (chr 4 0 9) 9 false 0 ≡ chr 5 0 1
-  pub ex5-mt : advancedOf (chr 4 0 9) 9 true 0 ≡ chr 4 1 1
-  pub ex5-mt-side-1 : advancedOf (chr 4 1 9) 9 true 1 ≡ chr 5 0 1
+  pub ex5-within : advancedOf (chr 4 0 8) 9 false 0 1 ≡ chr 4 0 9
+  pub ex5-eot : advancedOf (chr 4 0 9) 9 false 0 1 ≡ chr 5 0 1
+  pub ex5-mt : advancedOf (chr 4 0 9) 9 true 0 1 ≡ chr 4 1 1
+  pub ex5-mt-side-1 : advancedOf (chr 4 1 9) 9 true 1 1 ≡ chr 5 0 1
   -- 01 Example 6: FIFOTHR 0, 7, 15, FIFO on: read request at 15, 8, 1
   pub ex6-thr-0 : readLevel false 0 ≡ 15
   pub ex6-thr-7 : readLevel false 7 ≡ 8

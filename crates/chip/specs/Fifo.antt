@@ -5,7 +5,7 @@ use mathlib.Core.Path.{_≡_}
 use Prim.Native.Nat.{ℕ, _+_, _-_, _≤_, max}
 use mathlib.Core.Bool.{Bool, true, false, _&&_, _||_, not, cond}
 use mathlib.Core.List.{List, [], _∷_, _++_}
-use lib.Dec.{leb, ltb}
+use lib.Dec.{eqb, leb, ltb}
 use lib.ListN.{length, getD, set, take, drop, replicate}
 use Rattle.chip.specs.declared.fifo.Fifo.{Fifo}
 
@@ -36,6 +36,10 @@ held f = take (f .count) (f .bytes)
 -- the oldest byte
 abbrev pub frontOf : Fifo → ℕ
 frontOf f = getD (f .bytes) 0 0
+
+-- what the host is handed: the oldest byte, and 0 where none is held (D-33)
+abbrev pub handedOf : Fifo → ℕ
+handedOf f = cond (eqb (f .count) 0) 0 (frontOf f)
 
 -- 01 Result: every end empties the FIFO
 abbrev pub emptied : Fifo
@@ -69,10 +73,10 @@ takenOf tc f =
 unfoldable pub openedOf : Fifo → Fifo
 openedOf f = flagged true (f .tc) f
 
--- 01 FIFO, from host: off when full; after TC off for good
+-- 01 FIFO, from host: off when full, where the byte and its TC are dropped (D-32); after TC off for good
 unfoldable pub givenOf : Bool → Bool → ℕ → Fifo → Fifo
 givenOf efifo tc byte f =
-    cond (fullOf efifo f) f
+    cond (fullOf efifo f) (flagged false (f .tc) f)
     (flagged (f .asks && not tc && ltb (f .count + 1) (capacityOf efifo)) (f .tc || tc) (pushedOf byte f))
 
 -- 01 FIFO, from host: on again at T or fewer bytes left while below capacity; after TC off for good

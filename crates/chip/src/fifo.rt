@@ -8,6 +8,7 @@ ghost use Rattle.chip.specs.Fifo.{
   fullOf,
   withinOf,
   frontOf,
+  handedOf,
   emptied,
   flagged,
   pushedOf,
@@ -85,6 +86,17 @@ impl Fifo {
         ensures { λ r. ⌜ r ≡ frontOf self ⌝ }
     {
         self.bytes[0]
+    }
+
+    // What the host is handed: 0 where none is held (D-33).
+    pub fn handed(self) -> u8
+        ensures { λ r. ⌜ r ≡ handedOf self ⌝ }
+    {
+        let empty = self.count == 0;
+        if empty {
+            return 0;
+        }
+        self.front()
     }
 
     fn flagged(self, asks: bool, tc: bool) -> Fifo
@@ -178,13 +190,13 @@ impl Fifo {
         self.flagged(true, self.tc)
     }
 
-    // The host gives a byte, with or without TC.
+    // The host gives a byte, with or without TC. A full FIFO has no room for either, and asks no more (D-32).
     pub fn given(self, efifo: bool, tc: bool, byte: u8) -> Fifo
         ensures { λ r. ⌜ r ≡ givenOf efifo tc byte self ⌝ }
     {
         let full = self.full(efifo);
         if full {
-            return self;
+            return self.flagged(false, self.tc);
         }
         let f = self.pushed(byte);
         let asks = self.asks & !tc & (f.count < capacity(efifo));

@@ -2,7 +2,7 @@
 use image::slot::Id;
 ghost use mathlib.Core.Path.{_≡_};
 ghost use mathlib.Core.Bool.{cond};
-ghost use Rattle.chip.specs.Next.{nextOf, advancedOf, after, turned};
+ghost use Rattle.chip.specs.Next.{nextOf, advancedOf, afterBy, turned};
 
 // What follows a finished sector. Each carries the one next address, so that no caller advances R again (01 Easy 1).
 pub enum Next {
@@ -16,10 +16,10 @@ pub enum Next {
     SameSide(Id),
 }
 
-fn after_byte(x: u8) -> u8
-    ensures { λ r. ⌜ r ≡ after x ⌝ }
+fn after_by(step: u8, x: u8) -> u8
+    ensures { λ r. ⌜ r ≡ afterBy step x ⌝ }
 {
-    ((x as u16 + 1) % 256) as u8
+    ((x as u16 + step as u16) % 256) as u8
 }
 
 fn turned_byte(h: u8) -> u8
@@ -34,14 +34,14 @@ fn either(t: bool, a: u8, b: u8) -> u8
     if t { a } else { b }
 }
 
-// The next address.
-pub fn advance(id: Id, eot: u8, mt: bool, side: u8) -> Id
-    ensures { λ r. ⌜ r ≡ advancedOf id eot mt side ⌝ }
+// The next address; step: how far R goes below EOT.
+pub fn advance(id: Id, eot: u8, mt: bool, side: u8, step: u8) -> Id
+    ensures { λ r. ⌜ r ≡ advancedOf id eot mt side step ⌝ }
 {
     let at_eot = id.r == eot;
     if at_eot {
         let stays = mt & (side == 0);
-        let c = either(stays, id.c, after_byte(id.c));
+        let c = either(stays, id.c, after_by(1, id.c));
         let h = either(mt, turned_byte(id.h), id.h);
         return Id {
             c,
@@ -50,7 +50,7 @@ pub fn advance(id: Id, eot: u8, mt: bool, side: u8) -> Id
             n: id.n,
         };
     }
-    let r = after_byte(id.r);
+    let r = after_by(step, id.r);
     Id {
         c: id.c,
         h: id.h,
@@ -60,10 +60,10 @@ pub fn advance(id: Id, eot: u8, mt: bool, side: u8) -> Id
 }
 
 // For a write the caller's TC means: TC came and the FIFO is empty.
-pub fn follow(id: Id, eot: u8, mt: bool, side: u8, tc: bool) -> Next
-    ensures { λ r. ⌜ r ≡ nextOf id eot mt side tc ⌝ }
+pub fn follow(id: Id, eot: u8, mt: bool, side: u8, step: u8, tc: bool) -> Next
+    ensures { λ r. ⌜ r ≡ nextOf id eot mt side step tc ⌝ }
 {
-    let a = advance(id, eot, mt, side);
+    let a = advance(id, eot, mt, side, step);
     if tc {
         return Next::Ended(a);
     }

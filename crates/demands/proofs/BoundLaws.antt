@@ -56,7 +56,7 @@ use Rattle.engine.specs.ReadId.{noIdOf, noIdHere, idHere, identifiedOf, identif
 use Rattle.sectors.specs.Result.{endOf, moveEnd, moveFails, goesOf}
 use Rattle.sectors.specs.Search.{slotOf, matches, secondPass, passesAfter}
 use Rattle.engine.specs.Step.{siteOf, lostOf, workOf, goOnOf}
-use Rattle.sectors.specs.Track.{hasTrack, staysOf, nextSlot, markPlace, dataPlace, passBytes, sectorBytes}
+use Rattle.sectors.specs.Track.{hasTrack, staysOf, nextSlot, markPlace, dataPlace, sectorBytes}
 use Rattle.sectors.specs.Write.{writtenMark}
 use Rattle.demands.specs.EndsInTime.{boundOf}
 use Rattle.demands.specs.Quiet.{ProperJob}
@@ -97,13 +97,13 @@ stageLeft img head site task (Searching look) =
     aheadOf img site head task + ((1 - look .passes) * site .disk .slots + (site .disk .slots - look .slot))
 stageLeft img head site task (Turning slot) = site .disk .slots * cost (site .disk) + 2 * site .disk .slots + 1
 stageLeft img head site task (Reading sector done) =
-    laterOf img site head task + (2 * site .disk .slots + 65 + (passBytes site - done))
+    laterOf img site head task + (2 * site .disk .slots + 65 + (sectorBytes site - done))
 stageLeft img head site task (Draining sector looks) =
     laterOf img site head task + (2 * site .disk .slots + 1 + (64 - looks))
 stageLeft img head site task (Awaiting slot wait) =
-    laterOf img site head task + (2 * site .disk .slots + 2 + passBytes site + (64 - wait))
+    laterOf img site head task + (2 * site .disk .slots + 2 + sectorBytes site + (64 - wait))
 stageLeft img head site task (Storing slot done) =
-    laterOf img site head task + (2 * site .disk .slots + 1 + (passBytes site - done))
+    laterOf img site head task + (2 * site .disk .slots + 1 + (sectorBytes site - done))
 
 -- of a Format, which looks at no address
 unfoldable pub formLeft : Site → Form → ℕ
@@ -129,10 +129,10 @@ thenLeft img head (Works work) = workLeft img head work
 abbrev pub ProperStage : Site → Stage → Type 0
 ProperStage site (Searching look) = (look .slot < site .disk .slots) × (look .passes ≤ 1)
 ProperStage site (Turning slot) = (slot < site .disk .slots) × (site .side ≡ 1)
-ProperStage site (Reading sector done) = (sector .slot < site .disk .slots) × (done < passBytes site)
+ProperStage site (Reading sector done) = (sector .slot < site .disk .slots) × (done < sectorBytes site)
 ProperStage site (Draining sector looks) = (sector .slot < site .disk .slots) × (looks ≤ 63)
 ProperStage site (Awaiting slot wait) = (slot < site .disk .slots) × (wait ≤ 63)
-ProperStage site (Storing slot done) = (slot < site .disk .slots) × (done ≤ passBytes site)
+ProperStage site (Storing slot done) = (slot < site .disk .slots) × (done ≤ sectorBytes site)
 
 abbrev pub ProperTask : Task → Type 0
 ProperTask task = (task .id .r < 256) × (task .transfer .eot < 256)
@@ -241,7 +241,7 @@ module _ (g : Geometry) (mt : Bool) (side : ℕ) where
 module _ (img : List ℕ) (head : ℕ) (site : Site) (task : Task) where
   -- a match pays for its sector
   paid : (slot : ℕ) → ProperTask task → slot < site .disk .slots → hits img site head task slot ≡ true
-      → laterOf img site head task + (2 * site .disk .slots + passBytes site + 70) ≤ aheadOf img site head task
+      → laterOf img site head task + (2 * site .disk .slots + sectorBytes site + 70) ≤ aheadOf img site head task
   paid slot w h t = omega (
     arith,
     cost-is (site .disk),
@@ -305,7 +305,7 @@ module _ (img : List ℕ) (head : ℕ) (site : Site) where
   unfolding Kept
   mark-apart slot byte i = put-apart slot 0 i _ byte (omega arith) (omega arith) (λ e. omega arith)
 
-  data-apart : (slot done byte : ℕ) → done < passBytes site → Kept (set img (dataPlace site head slot done) byte)
+  data-apart : (slot done byte : ℕ) → done < sectorBytes site → Kept (set img (dataPlace site head slot done) byte)
   unfolding Kept dataPlace
   data-apart slot done byte h i = put-apart slot (5 + done) i _ byte (omega arith) (omega arith) (λ e. omega arith)
 
@@ -353,7 +353,7 @@ module _ (img : List ℕ) (head slot : ℕ) (site : Site) (task : Task) (fifo : 
   next-left o (steps t n e) s =
       rw (
         e,
-        advanced-below (task .id) (task .transfer .eot) (task .transfer .mt) (site .side) n,
+        advanced-below (task .id) (task .transfer .eot) (task .transfer .mt) (site .side) 1 n,
         ahead-same img head site (storedIn effect img) s (after (task .id .r)) (task .transfer .eot),
         later-step img site head (task .id .r) (task .transfer .eot) n,
       )
@@ -366,7 +366,8 @@ module _ (img : List ℕ) (head slot : ℕ) (site : Site) (task : Task) (fifo : 
       rw e (
         refl,
         (
-          (omega (arith, advanced-r-at-eot (task .id) (task .transfer .eot) (task .transfer .mt) (site .side) a), w .1),
+          (omega (arith, advanced-r-at-eot (task .id) (task .transfer .eot) (task .transfer .mt) (site .side) 1 a),
+          w .1),
           (next-slot-below slot (site .disk .slots) h, refl),
         ),
       )
@@ -375,7 +376,7 @@ module _ (img : List ℕ) (head slot : ℕ) (site : Site) (task : Task) (fifo : 
         refl,
         (
           (
-            rw (advanced-below (task .id) (task .transfer .eot) (task .transfer .mt) (site .side) n) (omega arith),
+            rw (advanced-below (task .id) (task .transfer .eot) (task .transfer .mt) (site .side) 1 n) (omega arith),
             w .1,
           ),
           (next-slot-below slot (site .disk .slots) h, omega arith),
@@ -610,10 +611,10 @@ module _ (img : List ℕ) (head : ℕ) (site : Site) (plan : Plan) (fifo : Fifo)
       (λ t. clear-on-falls (Filling slot done) slot effect w
       (λ k. omega (arith, le-mul-of-pos-right (slots - 1 - slot) b-pos)))
 
-  fill-falls : (slot done : ℕ) → ProperForm site (Filling slot done)
-      → Form-falls (Filling slot done) (fillOf slot done site plan head fifo)
+  fill-falls : (slot done : ℕ) (efifo : Bool) (fifothr : ℕ) → ProperForm site (Filling slot done)
+      → Form-falls (Filling slot done) (fillOf slot done site plan head fifo efifo fifothr)
   unfolding fillOf formLeft
-  fill-falls slot done w =
+  fill-falls slot done efifo fifothr w =
       by-test (leb (sectorBytes site) done) (Form-falls (Filling slot done)) _ _
       (λ t. formed-falls slot done _ w)
       (λ t. let l = leb-false (sectorBytes site) done t in
@@ -624,7 +625,7 @@ module _ (img : List ℕ) (head : ℕ) (site : Site) (plan : Plan) (fifo : Fifo)
   unfolding formOf clearOf formLeft
   form-falls (form.Awaiting slot wait) efifo fifothr w = await-falls slot wait w
   form-falls (Addressing slot k) efifo fifothr w = address-falls slot k efifo fifothr w
-  form-falls (Filling slot done) efifo fifothr w = fill-falls slot done w
+  form-falls (Filling slot done) efifo fifothr w = fill-falls slot done efifo fifothr w
   form-falls (Clearing slot) efifo fifothr w = clear-on-falls (Clearing slot) slot _ w (λ k. omega arith)
 
 -- a tick after the first, of any work: fewer ticks are left

@@ -41,7 +41,7 @@ use Rattle.sectors.specs.declared.work.Verdict.{Verdict}
 use Rattle.sectors.specs.Result.{st0Of, otherBit, endOf, moveEnd, moveFails, movesOf}
 use Rattle.sectors.specs.Search.{matches}
 use Rattle.engine.specs.Step.{stageOf}
-use Rattle.sectors.specs.Track.{hasTrack, markPlace, dataPlace, nextSlot, passBytes}
+use Rattle.sectors.specs.Track.{hasTrack, markPlace, dataPlace, nextSlot, sectorBytes}
 use Rattle.sectors.specs.Write.{writtenMark}
 use Rattle.demands.specs.Acknowledged.{AllSafe, Acknowledges}
 use Rattle.demands.specs.History.{Begun, no-one, some-of, History, noted}
@@ -356,7 +356,7 @@ module _ (g : Geometry) (cylinder drive : ℕ) (transfer : Transfer) (aim : Aim)
 
       -- 01 Write: one byte, the host's, or a zero after TC
       busy-puts : (slot done v : ℕ) (fifo′ : Fifo) → InHand (aimNow h) slot → Half (h .begun) (aimNow h) slot done
-          → done < passBytes site
+          → done < sectorBytes site
           → v ≡ getD (h .host) (storedCount g h) 0 → Open efifo fifo′ → fifo′ .tc ≡ fifo .tc
           → Stream (h .host) (held fifo′) (storedCount g h + 1) (fifo .tc)
           → Busy efifo site task (Storing slot (done + 1)) fifo′ (set img (dataPlace site cylinder slot done) v)
@@ -388,7 +388,7 @@ module _ (g : Geometry) (cylinder drive : ℕ) (transfer : Transfer) (aim : Aim)
 
       -- 01 Write: the good mark
       closes : (slot done : ℕ) → InHand (aimNow h) slot → (half : Half (h .begun) (aimNow h) slot done)
-          → passBytes site ≤ done
+          → sectorBytes site ≤ done
           → Sofar (set img (markPlace site cylinder slot) (writtenMark false task)) (closed (here slot) (half .bytes) h)
           × (storedCount g h ≡ storedCount g (closed (here slot) (half .bytes) h))
       closes slot done hand half l =
@@ -424,7 +424,7 @@ module _ (g : Geometry) (cylinder drive : ℕ) (transfer : Transfer) (aim : Aim)
           stream′ : Stream (h .host) (held fifo) (suc (length (h .finished)) * sizeOf (g .n)) (fifo .tc)
           stream′ = rw k-is at (b .stream)
 
-          address-is : verdict .id ≡ advancedOf (task .id) (task .transfer .eot) (task .transfer .mt) (site .side)
+          address-is : verdict .id ≡ advancedOf (task .id) (task .transfer .eot) (task .transfer .mt) (site .side) 1
               → verdict .id ≡ aimNo transfer aim (suc (length (h .finished))) .id
           address-is e = e ∙ rw (b .id, b .told-to, b .side)
 
@@ -485,7 +485,7 @@ module _ (g : Geometry) (cylinder drive : ℕ) (transfer : Transfer) (aim : Aim)
 
       -- and Next in that same tick
       busy-next : (slot done : ℕ) (o : Step) → FitsFifo efifo fifo → InHand (aimNow h) slot
-          → Half (h .begun) (aimNow h) slot done → passBytes site ≤ done
+          → Half (h .begun) (aimNow h) slot done → sectorBytes site ≤ done
           → NextRule (fifo .tc && eqb (fifo .count) 0) slot site task fifo (Store (markPlace site cylinder slot) (writtenMark false task)) o
           → OnStep efifo o img h
       busy-next slot done o f hand half l (stops verdict v e) =

@@ -177,7 +177,7 @@ module _ (img : List ℕ) (g : Geometry) (disk : diskIn img ≡ Present g) (orde
     )
       where
         stage-late : (stage : Stage) → c .phase ≡ Working (Moving site (taskIn other transfer id stage) stage)
-            → Late (c .registers .efifo) site (c .fifo) stage → L
+            → Late (c .registers .efifo) site (taskIn other transfer id stage) (c .fifo) stage → L
         stage-late stage p l = late-is (rw p l)
     step-of w (over d) = absurd (false≢true (sym (ap atWork (d .waits)) ∙ w))
 

@@ -205,7 +205,7 @@ module _ (g : Geometry) (img : List ℕ) (head drive side t : ℕ) (kind : Bool)
     site = siteAt drive side g
 
     abbrev L : Type 0
-    L = Late efifo site fifo stage
+    L = Late efifo site (taskIn other transfer id stage) fifo stage
 
     pub follow-rule : OnStage t stage
         → Rule head img efifo fifothr site (taskIn other transfer id stage) fifo stage o

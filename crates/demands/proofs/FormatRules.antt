@@ -30,7 +30,7 @@ use Rattle.sectors.specs.declared.work.Verdict.{Verdict}
 use Rattle.sectors.specs.Result.{st0Of, endOf}
 use Rattle.sectors.specs.Track.{hasTrack, dataPlace, markPlace, sectorBytes}
 use Rattle.engine.specs.First.{changes, misplanned, gateOf, givenId, startOf, enteredOf, beginOf}
-use Rattle.engine.specs.Format.{formatId, formatEnd, formsOf, formattedByte, formAwait, addressPut, addressOf, clearOn, formedOf, fillOf, clearOf, formOf}
+use Rattle.engine.specs.Format.{formatId, formatEnd, formsOf, laidOf, formAwait, addressPut, addressOf, clearOn, formedOf, fillOf, clearOf, formOf}
 use Rattle.demands.specs.FormatScript.{Allowed}
 use Rattle.demands.specs.InTime.{LateForm}
 use Rattle.demands.proofs.RequestLaws.{or-off}
@@ -45,7 +45,7 @@ absent≢present g e = let z : _≡_ {A = ℕ} 0 1 = cc in omega arith
 -- 01 Format, Result: what an end says
 abbrev pub formVerdict : Bool → ℕ → ℕ → ℕ → ℕ → Plan → ℕ → Verdict
 formVerdict normal st1 done drive side plan head =
-    record { st0 = st0Of normal drive side; st1 = st1; st2 = 0x00; id = formatId plan head side done }
+    record { st0 = st0Of normal drive side; st1 = st1; st2 = 0x00; id = formatId plan drive head side done }
 
 -- the first tick
 module _ (drive side : ℕ) (plan : Plan) (head : ℕ) (fifo : Fifo) where
@@ -165,8 +165,8 @@ module _ (head : ℕ) (efifo : Bool) (fifothr : ℕ) (site : Site) (plan : Plan)
         (Store (markPlace site head slot + 1 + k) (frontOf fifo))
         → FormRule form o
     fills : (slot done : ℕ) → form ≡ Filling slot done → done < sectorBytes site
-        → o ≡ formsOf (Filling slot (done + 1)) site plan fifo
-        (Store (dataPlace site head slot done) (formattedByte plan))
+        → o ≡ formsOf (Filling slot (done + 1)) site plan (laidOf plan fifo efifo fifothr .fifo)
+        (Store (dataPlace site head slot done) (laidOf plan fifo efifo fifothr .byte))
         → FormRule form o
     marks : (slot done : ℕ) → form ≡ Filling slot done → sectorBytes site ≤ done → slot + 1 < plan .sc
         → o ≡ formsOf (Awaiting (slot + 1) 0) site plan fifo
@@ -206,7 +206,7 @@ module _ (head : ℕ) (efifo : Bool) (fifothr : ℕ) (site : Site) (plan : Plan)
       (λ u. addresses-last slot k refl (pos-of t) (leb-true 3 k u) refl)
       (λ u. addresses slot k refl (pos-of t) (leb-false 3 k u) refl))
 
-  fill-rule : (slot done : ℕ) → FormRule (Filling slot done) (fillOf slot done site plan head fifo)
+  fill-rule : (slot done : ℕ) → FormRule (Filling slot done) (fillOf slot done site plan head fifo efifo fifothr)
   unfolding fillOf formedOf
   fill-rule slot done =
       by-test (leb (sectorBytes site) done) (FormRule (Filling slot done)) _ _

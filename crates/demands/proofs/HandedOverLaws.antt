@@ -404,7 +404,7 @@ module _ (g : Geometry) (cylinder drive : ℕ) (transfer : Transfer) (aim : Aim)
     at-eot k y e = let x : k ≡ b .m = omega arith in rw x (rw (b .id, b .told-to) at e)
 
     address-of : (id : Id) (k : ℕ) → k ≡ suc (b .m)
-        → id ≡ advancedOf (task .id) (task .transfer .eot) (task .transfer .mt) (site .side)
+        → id ≡ advancedOf (task .id) (task .transfer .eot) (task .transfer .mt) (site .side) 1
         → id ≡ aimNo transfer aim k .id
     address-of id k y e = rw y (e ∙ rw (b .id, b .told-to, b .side))
 
@@ -464,7 +464,7 @@ module _ (g : Geometry) (cylinder drive : ℕ) (transfer : Transfer) (aim : Aim)
         → task .id .r ≡ task .transfer .eot → task .transfer .mt ≡ true → site .side ≡ 0
         → Busy (onSide 1 site) (record {
           transfer = task .transfer;
-          id = advancedOf (task .id) (task .transfer .eot) (task .transfer .mt) (site .side);
+          id = advancedOf (task .id) (task .transfer .eot) (task .transfer .mt) (site .side) 1;
           other = other;
         }) (Turning (nextSlot slot (site .disk .slots))) f t
     on-turn slot num n other clear has trail fl r mt first =
@@ -492,7 +492,7 @@ module _ (g : Geometry) (cylinder drive : ℕ) (transfer : Transfer) (aim : Aim)
         → (task .id .r ≡ task .transfer .eot → ⊥)
         → Busy site (record {
           transfer = task .transfer;
-          id = advancedOf (task .id) (task .transfer .eot) (task .transfer .mt) (site .side);
+          id = advancedOf (task .id) (task .transfer .eot) (task .transfer .mt) (site .side) 1;
           other = other;
         }) (Searching (freshAt (nextSlot slot (site .disk .slots)))) f t
     on-step slot num n other clear has trail fl r =

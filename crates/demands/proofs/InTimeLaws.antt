@@ -78,37 +78,37 @@ Served Read efifo fifothr f stage = ReadServed efifo fifothr f × ReadAt f stage
 Served Write efifo fifothr f stage = WriteServed f × WriteAt f stage
 
 -- with the request off nothing is late
-read-timely : (efifo : Bool) (fifothr : ℕ) (site : Site) (f : Fifo) (stage : Stage) → Served Read efifo fifothr f stage
-    → f .asks ≡ false → Late efifo site f stage → ⊥
-read-timely efifo fifothr site f (Searching look) s a l = l
-read-timely efifo fifothr site f (Turning slot) s a l = l
-read-timely efifo fifothr site f (Reading sector done) s a l =
+read-timely : (efifo : Bool) (fifothr : ℕ) (site : Site) (task : Task) (f : Fifo) (stage : Stage)
+    → Served Read efifo fifothr f stage → f .asks ≡ false → Late efifo site task f stage → ⊥
+read-timely efifo fifothr site task f (Searching look) s a l = l
+read-timely efifo fifothr site task f (Turning slot) s a l = l
+read-timely efifo fifothr site task f (Reading sector done) s a l =
     true≢false (sym (l .1) ∙ off-room efifo fifothr f (s .0) a)
-read-timely efifo fifothr site f (Draining sector looks) s a l = omega (arith, s .1 a, l .0)
-read-timely efifo fifothr site f (Awaiting slot wait) s a l = s .1
-read-timely efifo fifothr site f (Storing slot done) s a l = s .1
+read-timely efifo fifothr site task f (Draining sector looks) s a l = omega (arith, s .1 a, l .0)
+read-timely efifo fifothr site task f (Awaiting slot wait) s a l = s .1
+read-timely efifo fifothr site task f (Storing slot done) s a l = s .1
 
-write-timely : (efifo : Bool) (fifothr : ℕ) (site : Site) (f : Fifo) (stage : Stage)
-    → Served Write efifo fifothr f stage → f .asks ≡ false → Late efifo site f stage → ⊥
-write-timely efifo fifothr site f (Searching look) s a l = l
-write-timely efifo fifothr site f (Turning slot) s a l = l
-write-timely efifo fifothr site f (Reading sector done) s a l = s .1
-write-timely efifo fifothr site f (Draining sector looks) s a l = s .1
-write-timely efifo fifothr site f (Awaiting slot wait) s a l = go (s .0 .some a)
+write-timely : (efifo : Bool) (fifothr : ℕ) (site : Site) (task : Task) (f : Fifo) (stage : Stage)
+    → Served Write efifo fifothr f stage → f .asks ≡ false → Late efifo site task f stage → ⊥
+write-timely efifo fifothr site task f (Searching look) s a l = l
+write-timely efifo fifothr site task f (Turning slot) s a l = l
+write-timely efifo fifothr site task f (Reading sector done) s a l = s .1
+write-timely efifo fifothr site task f (Draining sector looks) s a l = s .1
+write-timely efifo fifothr site task f (Awaiting slot wait) s a l = go (s .0 .some a)
   where
     go : (0 < f .count) ⊎ (f .tc ≡ true) → ⊥
     go (inl p) = omega (arith, l .0)
     go (inr t) = omega (arith, l .0, s .1 t)
-write-timely efifo fifothr site f (Storing slot done) s a l = go (s .0 .some a)
+write-timely efifo fifothr site task f (Storing slot done) s a l = go (s .0 .some a)
   where
     go : (0 < f .count) ⊎ (f .tc ≡ true) → ⊥
     go (inl p) = omega (arith, l .1)
     go (inr t) = true≢false (sym t ∙ l .2)
 
-served-timely : (pass : Pass) (efifo : Bool) (fifothr : ℕ) (site : Site) (f : Fifo) (stage : Stage)
-    → Served pass efifo fifothr f stage → f .asks ≡ false → Late efifo site f stage → ⊥
-served-timely Read efifo fifothr site f stage s a l = read-timely efifo fifothr site f stage s a l
-served-timely Write efifo fifothr site f stage s a l = write-timely efifo fifothr site f stage s a l
+served-timely : (pass : Pass) (efifo : Bool) (fifothr : ℕ) (site : Site) (task : Task) (f : Fifo) (stage : Stage)
+    → Served pass efifo fifothr f stage → f .asks ≡ false → Late efifo site task f stage → ⊥
+served-timely Read efifo fifothr site task f stage s a l = read-timely efifo fifothr site task f stage s a l
+served-timely Write efifo fifothr site task f stage s a l = write-timely efifo fifothr site task f stage s a l
 
 -- What a tick gives: it goes on, or it is over, with ST1 10 only if L.
 
@@ -149,7 +149,7 @@ module _ (efifo : Bool) (fifothr : ℕ) (L : Type 0) where
   write-next slot site task f effect o r s (steps u a e) = rw (e, r) (s, test-off (f .tc) (f .count) u)
 
   module _ (head : ℕ) (img : List ℕ) (site : Site) (task : Task) (f : Fifo) (stage : Stage) (o : Step)
-      (excuse : Late efifo site f stage → L) where
+      (excuse : Late efifo site task f stage → L) where
     -- 01 Search, Read
     read-gives : task .transfer .pass ≡ Read → Served Read efifo fifothr f stage
         → Rule head img efifo fifothr site task f stage o → Gives efifo fifothr L o
@@ -220,7 +220,7 @@ module _ (efifo : Bool) (fifothr : ℕ) (L : Type 0) where
 
   -- a later tick
   later-gives : (site : Site) (task : Task) (stage : Stage) (seen : Disk) (head : ℕ) (img : List ℕ) (f : Fifo)
-      → (Late efifo site f stage → L) → Served (task .transfer .pass) efifo fifothr f stage
+      → (Late efifo site task f stage → L) → Served (task .transfer .pass) efifo fifothr f stage
       → Gives efifo fifothr L (goOnOf (Moving site task stage) seen head img f efifo fifothr)
   unfolding goOnOf workOf lostOf moveFails moveEnd endOf
   later-gives site task stage seen head img f excuse s =
@@ -347,7 +347,7 @@ module _ (order : Order) (transfer : Transfer) (id : Id) (job : order .job ≡ M
   off-timely : (c : Controller) → Runs c → RequestOff c → Timely c
   off-timely c (starts p) a = rw p (λ l. l)
   off-timely c (works site task stage p s) a =
-      rw p (served-timely (task .transfer .pass) _ _ site (c .fifo) stage s a)
+      rw p (served-timely (task .transfer .pass) _ _ site task (c .fifo) stage s a)
   off-timely c (over n k) a = quiet-timely (c .phase) n
     where
       quiet-timely : (p : Phase) → atWork p ≡ false → LatePhase (c .registers .efifo) (c .fifo) p → ⊥

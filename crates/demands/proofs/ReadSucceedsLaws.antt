@@ -229,7 +229,7 @@ module _ (g : Geometry) (cylinder drive : ℕ) (transfer : Transfer) (aim : Aim)
 
   -- A tick.
   module _ (efifo : Bool) (fifothr n : ℕ) (stage : Stage) (f : Fifo) (t : Taken) (fit : FitsFifo efifo f)
-      (told : Told t) (w : Course n stage f t) (timely : Late efifo (siteNo n) f stage → ⊥) where
+      (told : Told t) (w : Course n stage f t) (timely : Late efifo (siteNo n) (taskNo n) f stage → ⊥) where
     abbrev here : ℕ
     here = plan .all .good n (w .within) .stands .slot
 

@@ -7,7 +7,7 @@ use mathlib.Core.Bool.{Bool, true, false, _&&_, _||_, not, true≢false, false�
 use mathlib.Core.Logic.{_⊎_, inl, inr}
 use mathlib.Core.Path.{_≡_, refl, sym, _∙_}
 use lib.Dec.{eqb, leb, ltb}
-use borrow.Author.Tests.{ltb-false, leb-false, lt-leb, eqb-true, eq-eqb, not-false}
+use borrow.Author.Tests.{ltb-false, leb-true, leb-false, lt-leb, eqb-true, eq-eqb, not-false}
 use Rattle.image.proofs.TestLaws.{by-test, both}
 use Rattle.chip.specs.declared.fifo.Fifo.{Fifo}
 use Rattle.chip.specs.Fifo.{capacityOf, readLevel, writeLevel, fullOf, emptied, openedOf, takenOf, givenOf, filledOf, drawnOf}
@@ -134,7 +134,13 @@ told-opened = λ t. absurd (false≢true t)
 pub write-given : (efifo tc : Bool) (byte : ℕ) (f : Fifo) → WriteServed f → WriteServed (givenOf efifo tc byte f)
 unfolding givenOf
 write-given efifo tc byte f s =
-    by-test (fullOf efifo f) WriteServed _ _ (λ t. s) (λ t. record { some = λ a. inl (omega arith) })
+    by-test (fullOf efifo f) WriteServed _ _
+    (λ t. record { some = λ a. inl (omega (arith, leb-true (capacityOf efifo) (f .count) t, capacity-some efifo)) })
+    (λ t. record { some = λ a. inl (omega arith) })
+  where
+    capacity-some : (e : Bool) → 0 < capacityOf e
+    capacity-some true = omega arith
+    capacity-some false = omega arith
 
 pub told-given : (efifo tc : Bool) (byte : ℕ) (f : Fifo) → ToldSome f → ToldSome (givenOf efifo tc byte f)
 unfolding givenOf

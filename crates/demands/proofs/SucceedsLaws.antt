@@ -50,7 +50,7 @@ use Rattle.sectors.specs.declared.work.Work.the-variants.{Identifying, Moving, 
 use Rattle.sectors.specs.Follow.{freshAt}
 use Rattle.sectors.specs.Result.{st0Of, otherBit, movesOf}
 use Rattle.sectors.specs.Search.{matches}
-use Rattle.sectors.specs.Track.{hasTrack, staysOf, markPlace, passBytes}
+use Rattle.sectors.specs.Track.{hasTrack, staysOf, markPlace, sectorBytes}
 use Rattle.engine.specs.First.{gateOf, taskOf, movingOf, startOf, enteredOf, beginOf}
 use Rattle.engine.specs.Step.{stageOf, workOf, goOnOf}
 use Rattle.fdc.specs.declared.record.Controller.{Controller}
@@ -321,7 +321,7 @@ module _ (g : Geometry) (cylinder drive : ℕ) (transfer : Transfer) (aim : Aim)
       done : ℕ
       slot : ℕ
       half : Half g cylinder drive transfer aim old (h .begun) (aimNo transfer aim now) slot done
-      full : passBytes site ≤ done
+      full : sectorBytes site ≤ done
 
     stored : Full → storedCount g h ≡ suc now * passing g
     stored x =
@@ -474,7 +474,7 @@ module _ (g : Geometry) (cylinder drive : ℕ) (transfer : Transfer) (aim : Aim)
           absurd (omega arith)
 
       -- a tick of it, by its rule
-      rule-goes : (o : Step) → (Late efifo site fifo stage → ⊥) → OnStage cylinder img site task stage
+      rule-goes : (o : Step) → (Late efifo site task fifo stage → ⊥) → OnStage cylinder img site task stage
           → Rule cylinder img efifo fifothr site task fifo stage o → Goes o
       rule-goes o timely w (notFound look verdict p t l m x y v e) =
           let (k, inside, hit) = on-track in

@@ -27,12 +27,12 @@ use Rattle.sectors.specs.declared.work.Task.{Task}
 use Rattle.sectors.specs.declared.work.Then.the-variants.{Ends}
 use Rattle.sectors.specs.declared.work.Verdict.{Verdict}
 use Rattle.sectors.specs.Follow.{freshAt, withId, onSide, followedOf, followOf, turnOf}
-use Rattle.sectors.specs.Read.{overrun, lastByte, readOn, readOf, drainedOf, drainOf}
+use Rattle.sectors.specs.Read.{overrun, lastByte, sectorOver, readOn, readOf, drainedOf, drainOf}
 use Rattle.sectors.specs.Result.{st0Of, otherBit, endOf, moveEnd, moveFails, movesOf}
 use Rattle.sectors.specs.Search.{slotOf, matches, withOther, secondPass, oneOn, missedOf, readFound, dataFound, bareFound, lookedOf, searchOf}
 use Rattle.sectors.specs.Search as finding
 use Rattle.engine.specs.Step.{stageOf}
-use Rattle.sectors.specs.Track.{hasTrack, nextSlot, markPlace, dataPlace, passBytes}
+use Rattle.sectors.specs.Track.{hasTrack, nextSlot, markPlace, dataPlace, passBytes, sectorBytes}
 use Rattle.sectors.specs.Write.{writtenMark, underrun, awaitOf, putOf, dryOf, writtenOf, storeOf}
 use Rattle.image.specs.declared.lent.Effect.{Effect}
 use Rattle.image.specs.declared.lent.Effect.the-variants.{Nothing, Store}
@@ -67,7 +67,7 @@ pub record NextEnds (tc : Bool) (site : Site) (task : Task) (verdict : Verdict) 
   pub st0 : verdict .st0 ≡ st0Of tc (site .drive) (site .side)
   pub st1 : verdict .st1 ≡ cond tc 0x00 0x80
   pub st2 : verdict .st2 ≡ otherBit (task .other)
-  pub id : verdict .id ≡ advancedOf (task .id) (task .transfer .eot) (task .transfer .mt) (site .side)
+  pub id : verdict .id ≡ advancedOf (task .id) (task .transfer .eot) (task .transfer .mt) (site .side) 1
   pub eot : tc ≡ false → task .id .r ≡ task .transfer .eot
   pub no-turn : tc ≡ false → task .transfer .mt ≡ true → site .side ≡ 0 → ⊥
 
@@ -78,11 +78,11 @@ pub data NextRule (tc : Bool) (slot : ℕ) (site : Site) (task : Task) (fifo : F
       → NextRule tc slot site task fifo effect o
   turns : tc ≡ false → task .id .r ≡ task .transfer .eot → task .transfer .mt ≡ true → site .side ≡ 0
       → o ≡ movesOf (Turning (nextSlot slot (site .disk .slots))) (onSide 1 site)
-      (withId (advancedOf (task .id) (task .transfer .eot) (task .transfer .mt) (site .side)) task) fifo effect
+      (withId (advancedOf (task .id) (task .transfer .eot) (task .transfer .mt) (site .side) 1) task) fifo effect
       → NextRule tc slot site task fifo effect o
   steps : tc ≡ false → (task .id .r ≡ task .transfer .eot → ⊥)
       → o ≡ movesOf (Searching (freshAt (nextSlot slot (site .disk .slots)))) site
-      (withId (advancedOf (task .id) (task .transfer .eot) (task .transfer .mt) (site .side)) task) fifo effect
+      (withId (advancedOf (task .id) (task .transfer .eot) (task .transfer .mt) (site .side) 1) task) fifo effect
       → NextRule tc slot site task fifo effect o
 
 -- 01 Read: one byte further: the FIFO gets the sector's byte, unless TC came; it was not full
@@ -105,7 +105,8 @@ pub data Rule (head : ℕ) (img : List ℕ) (efifo : Bool) (fifothr : ℕ) (site
   noSide : (slot : ℕ) (verdict : Verdict) → stage ≡ Turning slot → hasTrack (site .disk) head (site .side) ≡ false
       → Fails 0x01 site task verdict → o ≡ endsWith verdict Nothing
       → Rule head img efifo fifothr site task fifo stage o
-  late : (verdict : Verdict) → Fails 0x10 site task verdict → Late efifo site fifo stage → o ≡ endsWith verdict Nothing
+  late : (verdict : Verdict) → Fails 0x10 site task verdict → Late efifo site task fifo stage
+      → o ≡ endsWith verdict Nothing
       → Rule head img efifo fifothr site task fifo stage o
   -- the search
   misses : (look on : Search) → stage ≡ Searching look → hits img site head task (look .slot) ≡ false
@@ -138,22 +139,22 @@ pub data Rule (head : ℕ) (img : List ℕ) (efifo : Bool) (fifothr : ℕ) (site
   begins : (slot wait : ℕ) → stage ≡ Awaiting slot wait → 0 < fifo .count
       → o ≡ movesOf (Storing slot 0) site task fifo (Store (markPlace site head slot) (writtenMark true task))
       → Rule head img efifo fifothr site task fifo stage o
-  puts : (slot done : ℕ) → stage ≡ Storing slot done → done < passBytes site → 0 < fifo .count
+  puts : (slot done : ℕ) → stage ≡ Storing slot done → done < passBytes site task → 0 < fifo .count
       → o ≡ movesOf (Storing slot (done + 1)) site task (drawnOf efifo fifothr fifo)
       (Store (dataPlace site head slot done) (frontOf fifo))
       → Rule head img efifo fifothr site task fifo stage o
-  pads : (slot done : ℕ) → stage ≡ Storing slot done → done < passBytes site → fifo .count ≡ 0 → fifo .tc ≡ true
+  pads : (slot done : ℕ) → stage ≡ Storing slot done → done < sectorBytes site → fifo .count ≡ 0 → fifo .tc ≡ true
       → o ≡ movesOf (Storing slot (done + 1)) site task fifo (Store (dataPlace site head slot done) 0x00)
       → Rule head img efifo fifothr site task fifo stage o
-  finishes : (slot done : ℕ) → stage ≡ Storing slot done → passBytes site ≤ done
+  finishes : (slot done : ℕ) → stage ≡ Storing slot done → sectorBytes site ≤ done
       → NextRule (fifo .tc && eqb (fifo .count) 0) slot site task fifo (Store (markPlace site head slot) (writtenMark false task)) o
       → Rule head img efifo fifothr site task fifo stage o
   -- the read
-  moves : (sector : Sector) (done : ℕ) (fifo′ : Fifo) → stage ≡ Reading sector done → done + 1 < passBytes site
+  moves : (sector : Sector) (done : ℕ) (fifo′ : Fifo) → stage ≡ Reading sector done → done + 1 < sectorBytes site
       → Filled head img efifo fifothr site fifo sector done false fifo′
       → o ≡ movesOf (Reading sector (done + 1)) site task fifo′ Nothing
       → Rule head img efifo fifothr site task fifo stage o
-  moves-last : (sector : Sector) (done : ℕ) (fifo′ : Fifo) → stage ≡ Reading sector done → passBytes site ≤ done + 1
+  moves-last : (sector : Sector) (done : ℕ) (fifo′ : Fifo) → stage ≡ Reading sector done → sectorBytes site ≤ done + 1
       → Filled head img efifo fifothr site fifo sector done true fifo′
       → o ≡ movesOf (Draining sector 0) site task fifo′ Nothing → Rule head img efifo fifothr site task fifo stage o
   drains : (sector : Sector) (looks : ℕ) → stage ≡ Draining sector looks → looks < 63
@@ -314,11 +315,11 @@ module _ (head : ℕ) (img : List ℕ) (efifo : Bool) (fifothr : ℕ) (site : Si
 
   -- 01 Read
   on-rule : (sector : Sector) (done : ℕ) (f : Fifo)
-      → ((last : Bool) → lastByte site done ≡ last → Filled head img efifo fifothr site fifo sector done last f)
+      → ((last : Bool) → lastByte site task done ≡ last → Filled head img efifo fifothr site fifo sector done last f)
       → R (Reading sector done) (readOn sector done site task f)
   unfolding readOn
   on-rule sector done f into =
-      by-test (lastByte site done) (R (Reading sector done)) _ _
+      by-test (sectorOver site done) (R (Reading sector done)) _ _
       (λ t. moves-last sector done f refl (leb-true _ _ t) (into true t) refl)
       (λ t. moves sector done f refl (leb-false _ _ t) (into false t) refl)
 
@@ -368,7 +369,7 @@ module _ (head : ℕ) (img : List ℕ) (efifo : Bool) (fifothr : ℕ) (site : Si
       (λ u. waits slot wait refl (leb-false 63 wait u) refl))
       (λ t. begins slot wait refl (pos-of t) refl)
 
-  dry-rule : (slot done : ℕ) → done < passBytes site → fifo .count ≡ 0
+  dry-rule : (slot done : ℕ) → done < sectorBytes site → fifo .count ≡ 0
       → R (Storing slot done) (dryOf slot done site task head fifo)
   unfolding dryOf underrun putOf moveFails moveEnd endOf
   dry-rule slot done l z =
@@ -380,7 +381,7 @@ module _ (head : ℕ) (img : List ℕ) (efifo : Bool) (fifothr : ℕ) (site : Si
       → R (Storing slot done) (storeOf slot done site task head fifo efifo fifothr)
   unfolding storeOf writtenOf putOf
   store-rule slot done =
-      by-test (leb (passBytes site) done) (R (Storing slot done)) _ _
+      by-test (leb (sectorBytes site) done) (R (Storing slot done)) _ _
       (λ t. finishes slot done refl (leb-true _ _ t) (follow-rule slot site task fifo _ _))
       (λ t. by-test (eqb (fifo .count) 0) (R (Storing slot done)) _ _
       (λ u. dry-rule slot done (leb-false _ _ t) (eqb-true (fifo .count) 0 u))

@@ -2,11 +2,11 @@
 -- image is the old one with a first part of the script applied, and IC 00 says that it is whole.
 -- Assumes nothing.
 use Prim.Native.Nat.{ℕ, zero, suc, _+_, _-_, _*_, _<_, _≤_}
-use mathlib.Core.Bool.{true, false}
+use mathlib.Core.Bool.{true, false, cond}
 use mathlib.Core.List.{List, [], _∷_, _++_}
 use mathlib.Core.Logic.{_⊎_}
 use mathlib.Core.Path.{_≡_}
-use lib.Dec.{eqb}
+use lib.Dec.{eqb, ltb}
 use lib.ListN.{length, getD, set, take}
 use Rattle.sectors.specs.declared.order.Job.the-variants.{Format}
 use Rattle.sectors.specs.declared.order.Order.{Order}
@@ -146,8 +146,8 @@ module _ (g : Geometry) (cylinder drive side : ℕ) (plan : Plan) (host : List �
     pub clean : m ≡ length script → st1 ≡ 0x00
     pub unclean : st1 ≡ 0x00 → m ≡ length script
     pub st2-is : st2 ≡ 0x00
-    -- 01 Format: C H R N: head, side, slots done, N, at every end
-    pub address : id ≡ record { c = cylinder; h = side; r = id .r; n = plan .n }
+    -- 01 Format: C H R N: head (0 for drives 2, 3), side, slots done, N, at every end
+    pub address : id ≡ record { c = cond (ltb drive 2) cylinder 0; h = side; r = id .r; n = plan .n }
     pub done : SlotsDone g plan m (id .r)
     -- a slot is left begun only with ST1 10 or 01
     pub begun-left : id .r < plan .sc → id .r * slotStores g < m → (st1 ≡ 0x10) ⊎ (st1 ≡ 0x01)

@@ -1,11 +1,12 @@
 -- When a Format succeeds (01 Format, First tick, FIFO and request), and which host is in time for it.
 -- Assumes nothing.
 use Prim.Native.Nat.{ℕ, _*_, _≤_}
-use mathlib.Core.Bool.{true, false}
+use mathlib.Core.Bool.{true, false, cond}
 use mathlib.Core.List.{List, [], _∷_}
 use mathlib.Core.Logic.{_⊎_}
 use mathlib.Core.Path.{_≡_}
 use lib.ListN.{length}
+use lib.Dec.{ltb}
 use Rattle.sectors.specs.declared.order.Order.{Order}
 use Rattle.sectors.specs.declared.order.Plan.{Plan}
 use Rattle.sectors.specs.Result.{st0Of}
@@ -33,13 +34,14 @@ ServedUpTo n (call ∷ calls) c h =
     → AtTick (λ e. (e .fifo .asks ≡ false) ⊎ (n ≤ length (h .host))) call c
     × ServedUpTo n calls (after call c) (historyBy call c h)
 
--- the result waits with INT on: IC 00 with side and drive, ST1 and ST2 00; head, side, SC, N
+-- the result waits with INT on: IC 00 with side and drive, ST1 and ST2 00; head (0 for drives 2, 3), side, SC, N
 pub record Formatted (order : Order) (plan : Plan) (cylinder : ℕ) (e : Controller) : Type 0 where
   pub waits : e .phase ≡ Answering true
   pub st0 : resultByte 0 e ≡ st0Of true (order .drive) (order .side)
   pub st1 : resultByte 1 e ≡ 0x00
   pub st2 : resultByte 2 e ≡ 0x00
-  pub address : resultId e ≡ record { c = cylinder; h = order .side; r = plan .sc; n = plan .n }
+  pub address : resultId e
+      ≡ record { c = cond (ltb (order .drive) 2) cylinder 0; h = order .side; r = plan .sc; n = plan .n }
 
 -- on a disk that it may format, with the motor on, nobody else at the image, served in time, it ends normally
 abbrev pub FormatSucceeds : (Controller → Type 0) → Type 0

@@ -16,6 +16,7 @@ use Rattle.sectors.specs.declared.work.Form.the-variants as form
 use Rattle.sectors.specs.declared.work.Site.{Site}
 use Rattle.sectors.specs.declared.work.Stage.{Stage}
 use Rattle.sectors.specs.declared.work.Stage.the-variants.{Searching, Turning, Reading, Draining, Awaiting, Storing}
+use Rattle.sectors.specs.declared.work.Task.{Task}
 use Rattle.sectors.specs.declared.work.Work.{Work}
 use Rattle.sectors.specs.declared.work.Work.the-variants.{Identifying, Moving, Formatting}
 use Rattle.sectors.specs.Track.{passBytes}
@@ -28,13 +29,13 @@ use Rattle.demands.specs.Work.{atWork, Its}
 
 -- 01 Read, Write: what ST1 10 is for, by the stage: a byte to move and the FIFO full, the 64th look that finds bytes,
 -- the 64th tick without one, a byte to store and none there
-abbrev pub Late : Bool → Site → Fifo → Stage → Type 0
-Late efifo site fifo (Searching look) = ⊥
-Late efifo site fifo (Turning slot) = ⊥
-Late efifo site fifo (Reading sector done) = (fifo .tc ≡ false) × (fullOf efifo fifo ≡ true)
-Late efifo site fifo (Draining sector looks) = (0 < fifo .count) × (63 ≤ looks)
-Late efifo site fifo (Awaiting slot wait) = (fifo .count ≡ 0) × (63 ≤ wait)
-Late efifo site fifo (Storing slot done) = (done < passBytes site) × (fifo .count ≡ 0) × (fifo .tc ≡ false)
+abbrev pub Late : Bool → Site → Task → Fifo → Stage → Type 0
+Late efifo site task fifo (Searching look) = ⊥
+Late efifo site task fifo (Turning slot) = ⊥
+Late efifo site task fifo (Reading sector done) = (fifo .tc ≡ false) × (fullOf efifo fifo ≡ true)
+Late efifo site task fifo (Draining sector looks) = (0 < fifo .count) × (63 ≤ looks)
+Late efifo site task fifo (Awaiting slot wait) = (fifo .count ≡ 0) × (63 ≤ wait)
+Late efifo site task fifo (Storing slot done) = (done < passBytes site task) × (fifo .count ≡ 0) × (fifo .tc ≡ false)
 
 -- 01 Format: wait as for Write; a byte of the four missing
 abbrev pub LateForm : Fifo → Form → Type 0
@@ -45,7 +46,7 @@ LateForm fifo (form.Clearing slot) = ⊥
 
 abbrev pub LateWork : Bool → Fifo → Work → Type 0
 LateWork efifo fifo (Identifying site slot passes) = ⊥
-LateWork efifo fifo (Moving site task stage) = Late efifo site fifo stage
+LateWork efifo fifo (Moving site task stage) = Late efifo site task fifo stage
 LateWork efifo fifo (Formatting site plan form) = LateForm fifo form
 
 abbrev pub LatePhase : Bool → Fifo → Phase → Type 0

@@ -44,7 +44,7 @@ pub record Aim : Type 0 where
 abbrev pub onward : Transfer → Aim → Aim
 onward transfer aim =
     record {
-      id = advancedOf (aim .id) (transfer .eot) (transfer .mt) (aim .side);
+      id = advancedOf (aim .id) (transfer .eot) (transfer .mt) (aim .side) 1;
       side = cond (eqb (aim .id .r) (transfer .eot)) 1 (aim .side);
     }
 

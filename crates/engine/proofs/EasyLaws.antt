@@ -27,7 +27,7 @@ use Rattle.sectors.specs.declared.work.Work.the-variants.{Identifying, Moving, 
 use Rattle.sectors.specs.Follow.{followedOf, followOf}
 use Rattle.engine.specs.ReadId.{noAddress}
 use Rattle.sectors.specs.Result.{endOf, moveEnd, moveFails}
-use Rattle.sectors.specs.Track.{dataPlace, passBytes}
+use Rattle.sectors.specs.Track.{dataPlace, sectorBytes}
 use Rattle.sectors.specs.Write.{underrun, putOf, dryOf, storeOf}
 
 -- the address of a result, or of the sector now in hand
@@ -56,17 +56,17 @@ module _ (slot : ℕ) (site : Site) (task : Task) (fifo : Fifo) (effect : Effect
   -- 01 Easy 1: whatever follows a sector, its address is the one after it, advanced once
   pub follow-advances-once : (tc : Bool)
       → thenId (followOf slot tc site task fifo effect .then)
-      ≡ advancedOf (task .id) (task .transfer .eot) (task .transfer .mt) (site .side)
+      ≡ advancedOf (task .id) (task .transfer .eot) (task .transfer .mt) (site .side) 1
   unfolding followOf
   follow-advances-once tc = followed-id _ ∙ next-address (task .id) (task .transfer .eot) (task .transfer .mt)
-      (site .side) tc
+      (site .side) 1 tc
 
   followed-normal : (tc : Bool) (n : Next)
-      → nextOf (task .id) (task .transfer .eot) (task .transfer .mt) (site .side) tc ≡ n
+      → nextOf (task .id) (task .transfer .eot) (task .transfer .mt) (site .side) 1 tc ≡ n
       → thenSt0 (followedOf n slot site task fifo effect .then) < 0x40 → tc ≡ true
   unfolding followedOf moveEnd endOf
   followed-normal tc (Ended id) e h =
-      next-ended-tc (task .id) (task .transfer .eot) (task .transfer .mt) (site .side) tc id e
+      next-ended-tc (task .id) (task .transfer .eot) (task .transfer .mt) (site .side) 1 tc id e
   followed-normal tc (PastEot id) e h = absurd (omega arith)
   followed-normal tc (OtherSide id) e h = absurd (omega arith)
   followed-normal tc (SameSide id) e h = absurd (omega arith)
@@ -100,8 +100,8 @@ module _ (slot done : ℕ) (site : Site) (task : Task) (head : ℕ) (fifo : Fifo
   unfolding dryOf underrun
   dry-there = by-test (fifo .tc) There _ _ (λ t. put-there 0 fifo) (λ t. fails-there)
 
-  pub store-data-before-mark : done < passBytes site → There (storeOf slot done site task head fifo efifo fifothr)
+  pub store-data-before-mark : done < sectorBytes site → There (storeOf slot done site task head fifo efifo fifothr)
   unfolding storeOf
   store-data-before-mark h =
-      rw (lt-leb (passBytes site) done h)
+      rw (lt-leb (sectorBytes site) done h)
       (by-test (eqb (fifo .count) 0) There _ _ (λ t. dry-there) (λ t. put-there _ _))

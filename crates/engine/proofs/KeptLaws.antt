@@ -50,12 +50,12 @@ use Rattle.engine.specs.First.{writes, taskOf, movingOf, startOf, entere
 use Rattle.sectors.specs.Follow.{freshAt, followedOf, followOf, turnOf}
 use Rattle.engine.specs.Format.{formatEnd, formsOf, formWait, formAwait, addressPut, addressOf, clearOn, formedOf, fillOf, clearOf, formOf}
 use Rattle.engine.specs.Kept.{suits, suited, jobFlow, thenWait, thenFlow, thenDrive, thenFifo, storePlace, Kept}
-use Rattle.sectors.specs.Read.{overrun, lastByte, readOn, readOf, drainedOf, drainOf}
+use Rattle.sectors.specs.Read.{overrun, sectorOver, readOn, readOf, drainedOf, drainOf}
 use Rattle.engine.specs.ReadId.{noIdOf, noIdHere, idHere, identifiedOf, identifyOf}
 use Rattle.sectors.specs.Result.{endOf, moveEnd, moveFails, movesOf}
 use Rattle.sectors.specs.Search.{matches, secondPass, notFound, missedOf, withOther, readFound, dataFound, bareFound, lookedOf, searchOf}
 use Rattle.engine.specs.Step.{lostOf, stageOf, workOf, goOnOf, siteOf, passFlow, fromHost, flowOf, waitOf, driveOf, stageWait}
-use Rattle.sectors.specs.Track.{hasTrack, staysOf, passBytes, sectorBytes, dataPlace, markPlace}
+use Rattle.sectors.specs.Track.{hasTrack, staysOf, sectorBytes, dataPlace, markPlace}
 use Rattle.sectors.specs.Write.{underrun, awaitOf, putOf, dryOf, writtenOf, storeOf}
 
 -- a pass from the host may store
@@ -230,7 +230,7 @@ module _ (efifo : Bool) (f : Fifo) (ok : Bool) where
         → Moved site task (readOn sector done site task fifo)
     unfolding readOn
     read-on-kept sector done fifo s p =
-        by-test (lastByte site done) (Moved site task) _ _
+        by-test (sectorOver site done) (Moved site task) _ _
         (λ t. moves-kept site task (Draining sector 0) fifo Nothing (omega arith) s p (λ o h. refl) (omega arith))
         (λ t. moves-kept site task (Reading sector (done + 1)) fifo Nothing (omega arith) s p (λ o h. refl)
         (omega arith))
@@ -304,7 +304,7 @@ module _ (efifo : Bool) (f : Fifo) (ok : Bool) where
         → Moved site task (storeOf slot done site task head f efifo fifothr)
     unfolding storeOf
     store-kept slot done head fifothr s =
-        by-test (leb (passBytes site) done) (Moved site task) _ _
+        by-test (leb (sectorBytes site) done) (Moved site task) _ _
         (λ t. written-kept slot head s)
         (λ t. by-test (eqb (f .count) 0) (Moved site task) _ _
         (λ u. dry-kept slot done head s)
@@ -414,9 +414,9 @@ module _ (efifo : Bool) (f : Fifo) (ok : Bool) where
         (λ t. forms-kept (form.Awaiting (slot + 1) 0) f effect (omega arith) (λ p. p) b)
         (λ t. clear-on-kept slot effect b)
 
-    fill-kept : (slot done : ℕ) → Formed site (fillOf slot done site plan head f)
+    fill-kept : (slot done fifothr : ℕ) → Formed site (fillOf slot done site plan head f efifo fifothr)
     unfolding fillOf
-    fill-kept slot done =
+    fill-kept slot done fifothr =
         by-test (leb (sectorBytes site) done) (Formed site) _ _
         (λ t. formed-kept slot _ (mark-behind site head slot))
         (λ t. forms-kept (Filling slot (done + 1)) f _ (omega arith) (λ p. p) (data-behind site head slot done))
@@ -429,7 +429,7 @@ module _ (efifo : Bool) (f : Fifo) (ok : Bool) where
     unfolding formOf
     form-kept (form.Awaiting slot wait) fifothr = form-await-kept slot wait
     form-kept (Addressing slot k) fifothr = address-kept slot k fifothr
-    form-kept (Filling slot done) fifothr = fill-kept slot done
+    form-kept (Filling slot done) fifothr = fill-kept slot done fifothr
     form-kept (Clearing slot) fifothr = clear-kept slot
 
 stage-kept : (stage : Stage) (site : Site) (task : Task) (head : ℕ) (img : List ℕ) (fifo : Fifo) (efifo : Bool)

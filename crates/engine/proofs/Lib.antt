@@ -1,4 +1,5 @@
 pub mod EasyLaws
 pub mod Examples
+pub mod FormatLaws
 pub mod KeptLaws
 pub mod Open

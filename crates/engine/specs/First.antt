@@ -56,10 +56,10 @@ gateOf (Present g) job side head =
     (cond (misplanned job g) (Shut 0x04) (Open g)))
 
 -- 01 Result: the sector in hand; 01 Read ID: zeros; 01 Format: with no slot done
-unfoldable pub givenId : Job → ℕ → ℕ → Id
-givenId Identify side head = noAddress
-givenId (Move transfer id) side head = id
-givenId (Format plan) side head = formatId plan head side 0
+unfoldable pub givenId : Job → ℕ → ℕ → ℕ → Id
+givenId Identify drive side head = noAddress
+givenId (Move transfer id) drive side head = id
+givenId (Format plan) drive side head = formatId plan drive head side 0
 
 abbrev pub taskOf : Transfer → Id → Task
 taskOf transfer id = record { transfer = transfer; id = id; other = false }
@@ -75,7 +75,7 @@ startOf (Move transfer id) site fifo = movingOf (transfer .pass) transfer id sit
 startOf (Format plan) site fifo = formsOf (Awaiting 0 0) site plan (openedOf fifo) Nothing
 
 unfoldable pub enteredOf : Gate → Job → ℕ → ℕ → ℕ → Fifo → Step
-enteredOf (Shut st1) job drive side head fifo = endOf false drive side st1 0x00 (givenId job side head) Nothing
+enteredOf (Shut st1) job drive side head fifo = endOf false drive side st1 0x00 (givenId job drive side head) Nothing
 enteredOf (Open g) job drive side head fifo = startOf job (record { drive = drive; side = side; disk = g }) fifo
 
 -- 01 Data commands: the first tick does its tests and nothing else

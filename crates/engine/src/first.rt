@@ -108,13 +108,13 @@ fn first_tests(disk: Disk, job: Job, side: u8, head: u8) -> Gate
 }
 
 // The address of an end in the first tick.
-fn given_id(job: Job, side: u8, head: u8) -> Id
-    ensures { λ r. ⌜ r ≡ givenId job side head ⌝ }
+fn given_id(job: Job, drive: u8, side: u8, head: u8) -> Id
+    ensures { λ r. ⌜ r ≡ givenId job drive side head ⌝ }
 {
     match job {
         Job::Identify => no_address(),
         Job::Move(transfer, id) => id,
-        Job::Format(plan) => format_id(plan, head, side, 0),
+        Job::Format(plan) => format_id(plan, drive, head, side, 0),
     }
 }
 
@@ -174,7 +174,7 @@ fn entered(gate: Gate, job: Job, drive: u8, side: u8, head: u8, fifo: Fifo) -> S
 {
     match gate {
         Gate::Shut(st1) => {
-            let id = given_id(job, side, head);
+            let id = given_id(job, drive, side, head);
             end(false, drive, side, st1, 0x00, id, Effect::Nothing)
         }
         Gate::Open(g) => {

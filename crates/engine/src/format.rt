@@ -15,27 +15,42 @@ use sectors::work::Site;
 use sectors::work::Step;
 use sectors::work::Work;
 ghost use mathlib.Core.Path.{_≡_};
+ghost use Prim.Native.Nat.{_<_};
 ghost use Rattle.engine.specs.Format.{
+  formatHead,
   formatId,
   formatEnd,
   doneOf,
   formsOf,
-  formattedByte,
+  laidOf,
   formAwait,
   addressPut,
   addressOf,
   clearOn,
   formedOf,
+  layOf,
   fillOf,
   clearOf,
   formOf,
 };
 
-pub fn format_id(plan: Plan, head: u8, side: u8, done: u8) -> Id
-    ensures { λ r. ⌜ r ≡ formatId plan head side done ⌝ }
+// Drives 2 and 3 have no head.
+fn format_head(drive: u8, head: u8) -> u8
+    ensures { λ r. ⌜ r ≡ formatHead drive head ⌝ }
 {
+    let real = drive < 2;
+    if real {
+        return head;
+    }
+    0
+}
+
+pub fn format_id(plan: Plan, drive: u8, head: u8, side: u8, done: u8) -> Id
+    ensures { λ r. ⌜ r ≡ formatId plan drive head side done ⌝ }
+{
+    let c = format_head(drive, head);
     Id {
-        c: head,
+        c,
         h: side,
         r: done,
         n: plan.n,
@@ -53,7 +68,7 @@ pub fn format_end(
 ) -> Step
     ensures { λ r. ⌜ r ≡ formatEnd normal st1 done effect site plan head ⌝ }
 {
-    let id = format_id(plan, head, site.side, done);
+    let id = format_id(plan, site.drive, head, site.side, done);
     end(normal, site.drive, site.side, st1, 0x00, id, effect)
 }
 
@@ -75,10 +90,22 @@ pub fn forms(form: Form, site: Site, plan: Plan, fifo: Fifo, effect: Effect) -> 
     goes(Work::Formatting(site, plan, form), fifo, effect)
 }
 
-fn formatted_byte(plan: Plan) -> u8
-    ensures { λ r. ⌜ r ≡ formattedByte plan ⌝ }
+// What a byte of a formatted slot is: the byte and the FIFO after it, or none where the host's is missing.
+pub struct Laid {
+    pub missing: bool,
+    pub byte: u8,
+    pub fifo: Fifo,
+}
+
+// The fill byte; the FIFO is not asked.
+fn lay(plan: Plan, fifo: Fifo, efifo: bool, fifothr: u8) -> Laid
+    ensures { λ r. ⌜ r ≡ laidOf plan fifo efifo fifothr ⌝ }
 {
-    plan.fill
+    Laid {
+        missing: false,
+        byte: plan.fill,
+        fifo,
+    }
 }
 
 fn await_address(slot: u8, wait: u8, site: Site, plan: Plan, head: u8, fifo: Fifo) -> Step
@@ -158,8 +185,36 @@ fn formed(slot: u8, site: Site, plan: Plan, head: u8, fifo: Fifo, effect: Effect
     clear_on(slot, site, plan, head, fifo, effect)
 }
 
-fn fill(slot: u8, done: u16, site: Site, plan: Plan, head: u8, fifo: Fifo) -> Step
-    ensures { λ r. ⌜ r ≡ fillOf slot done site plan head fifo ⌝ }
+fn put_laid(laid: Laid, slot: u8, done: u16, site: Site, plan: Plan, head: u8) -> Step
+    requires { ⌜ done < 1024 ⌝ }
+    ensures { λ r. ⌜ r ≡ layOf laid slot done site plan head ⌝ }
+{
+    if laid.missing {
+        return format_end(false, 0x10, slot, Effect::Nothing, site, plan, head);
+    }
+    let at = data_place(site, head, slot, done);
+    let byte = laid.byte;
+    let fifo = laid.fifo;
+    forms(
+        Form::Filling(slot, done + 1),
+        site,
+        plan,
+        fifo,
+        Effect::Store { at, byte },
+    )
+}
+
+fn fill(
+    slot: u8,
+    done: u16,
+    site: Site,
+    plan: Plan,
+    head: u8,
+    fifo: Fifo,
+    efifo: bool,
+    fifothr: u8,
+) -> Step
+    ensures { λ r. ⌜ r ≡ fillOf slot done site plan head fifo efifo fifothr ⌝ }
 {
     if sector_bytes(site) <= done as usize {
         let at = mark_place(site, head, slot);
@@ -169,15 +224,8 @@ fn fill(slot: u8, done: u16, site: Site, plan: Plan, head: u8, fifo: Fifo) -> St
         });
         return formed(slot, site, plan, head, fifo, Effect::Store { at, byte });
     }
-    let at = data_place(site, head, slot, done);
-    let byte = formatted_byte(plan);
-    forms(
-        Form::Filling(slot, done + 1),
-        site,
-        plan,
-        fifo,
-        Effect::Store { at, byte },
-    )
+    let laid = lay(plan, fifo, efifo, fifothr);
+    put_laid(laid, slot, done, site, plan, head)
 }
 
 fn clear(slot: u8, site: Site, plan: Plan, head: u8, fifo: Fifo) -> Step
@@ -202,7 +250,7 @@ pub fn form_on(
     match form {
         Form::Awaiting(slot, wait) => await_address(slot, wait, site, plan, head, fifo),
         Form::Addressing(slot, k) => address(slot, k, site, plan, head, fifo, efifo, fifothr),
-        Form::Filling(slot, done) => fill(slot, done, site, plan, head, fifo),
+        Form::Filling(slot, done) => fill(slot, done, site, plan, head, fifo, efifo, fifothr),
         Form::Clearing(slot) => clear(slot, site, plan, head, fifo),
     }
 }

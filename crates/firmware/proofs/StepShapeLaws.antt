@@ -43,11 +43,11 @@ use Rattle.sectors.specs.declared.work.Then.the-variants.{Ends, Works}
 use Rattle.sectors.specs.declared.work.Work.{Work}
 use Rattle.sectors.specs.declared.work.Work.the-variants.{Identifying, Moving, Formatting}
 use Rattle.sectors.specs.Follow.{followedOf, followOf, turnOf}
-use Rattle.sectors.specs.Read.{overrun, lastByte, readOn, readOf, drainedOf, drainOf}
+use Rattle.sectors.specs.Read.{overrun, sectorOver, readOn, readOf, drainedOf, drainOf}
 use Rattle.sectors.specs.Result.{endOf, moveEnd, moveFails}
 use Rattle.sectors.specs.Search.{matches, secondPass, notFound, missedOf, readFound, dataFound, bareFound, lookedOf}
 use Rattle.sectors.specs.Search.{searchOf}
-use Rattle.sectors.specs.Track.{hasTrack, staysOf, passBytes, sectorBytes}
+use Rattle.sectors.specs.Track.{hasTrack, staysOf, sectorBytes}
 use Rattle.sectors.specs.Write.{underrun, awaitOf, putOf, dryOf, writtenOf, storeOf}
 use Rattle.engine.specs.First.{changes, misplanned, gateOf, movingOf, startOf, enteredOf, beginOf}
 use Rattle.engine.specs.Format.{formatEnd, formAwait, addressPut, addressOf, clearOn, formedOf, fillOf, clearOf, formOf}
@@ -86,7 +86,7 @@ room-filled efifo fifothr last byte f =
 pub room-given : (efifo tc : Bool) (byte : ℕ) (f : Fifo) → Room efifo f (givenOf efifo tc byte f)
 unfolding givenOf
 room-given efifo tc byte f =
-    by-test (fullOf efifo f) (Room efifo f) _ _ (λ t. room-same efifo f)
+    by-test (fullOf efifo f) (Room efifo f) _ _ (λ t. record { sixteen = λ h. h; within = λ h. h })
     (λ t. record {
       sixteen = λ h. length-set (f .bytes) (f .count) byte ∙ h;
       within = λ h. omega (arith, leb-false (capacityOf efifo) (f .count) t);
@@ -201,10 +201,10 @@ module _ (efifo : Bool) (f : Fifo) where
         → Ok (readOn sector done site task fifo)
     unfolding readOn
     read-on-fine sector done fifo r =
-        by-test (lastByte site done) Ok _ _ (λ t. record { room = r; done = omega arith })
+        by-test (sectorOver site done) Ok _ _ (λ t. record { room = r; done = omega arith })
         (λ t. record {
           room = r;
-          done = omega (arith, leb-false (passBytes site) (done + 1) t, size-le (site .disk .n));
+          done = omega (arith, leb-false (sectorBytes site) (done + 1) t, size-le (site .disk .n));
         })
 
     read-fine : (sector : Sector) (done head : ℕ) (img : List ℕ) (fifothr : ℕ)
@@ -236,10 +236,10 @@ module _ (efifo : Bool) (f : Fifo) where
     store-fine : (slot done head fifothr : ℕ) → Ok (storeOf slot done site task head f efifo fifothr)
     unfolding storeOf writtenOf dryOf putOf underrun
     store-fine slot done head fifothr =
-        by-test (leb (passBytes site) done) Ok _ _
+        by-test (leb (sectorBytes site) done) Ok _ _
         (λ t. follow-fine site task slot _ f _ (room-same efifo f))
         (λ t. let most : done + 1 ≤ 1024 =
-        omega (arith, leb-false (passBytes site) done t, size-le (site .disk .n)) in
+        omega (arith, leb-false (sectorBytes site) done t, size-le (site .disk .n)) in
         by-test (eqb (f .count) 0) Ok _ _
         (λ u. by-test (f .tc) Ok _ _ (λ v. record { room = room-same efifo f; done = most })
         (λ v. fails-fine site task 0x10 0))

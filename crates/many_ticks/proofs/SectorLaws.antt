@@ -13,6 +13,7 @@ use Rattle.image.proofs.TestLaws.{by-test}
 use Rattle.chip.specs.declared.fifo.Fifo.{Fifo}
 use Rattle.chip.specs.Fifo.{fullOf, frontOf, drawnOf}
 use Rattle.sectors.specs.declared.work.Site.{Site}
+use Rattle.sectors.specs.declared.work.Task.{Task}
 use Rattle.sectors.specs.Read.{lastByte}
 use Rattle.sectors.specs.Track.{passBytes, dataPlace}
 use Rattle.many_ticks.specs.declared.sector.Pace.{Pace}
@@ -35,15 +36,19 @@ neither true u h = absurd (true≢false h)
 neither false u h = (refl, h)
 
 -- a byte more is still in the sector
-pub read-room : (site : Site) (efifo : Bool) (done : ℕ) (fifo : Fifo) → readRests site efifo done fifo ≡ false
+pub read-room : (site : Site) (task : Task) (efifo : Bool) (done : ℕ) (fifo : Fifo)
+    → readRests site task efifo done fifo ≡ false
     → done + 1 < 1024
-read-room site efifo done fifo h =
-    let last = leb-false (passBytes site) (done + 1) (neither (fifo .tc || fullOf efifo fifo) (lastByte site done) h .1) in
+read-room site task efifo done fifo h =
+    let last = leb-false (passBytes site task) (done + 1)
+    (neither (fifo .tc || fullOf efifo fifo) (lastByte site task done) h .1) in
     omega (arith, last, size-le (site .disk .n))
 
-pub store-room : (site : Site) (done : ℕ) (fifo : Fifo) → storeRests site done fifo ≡ false → done < 1024
-store-room site done fifo h =
-    let last = leb-false (passBytes site) done (neither (leb (passBytes site) done) (eqb (fifo .count) 0) h .0) in
+pub store-room : (site : Site) (task : Task) (done : ℕ) (fifo : Fifo)
+    → storeRests site task done fifo ≡ false → done < 1024
+store-room site task done fifo h =
+    let last = leb-false (passBytes site task) done
+    (neither (leb (passBytes site task) done) (eqb (fifo .count) 0) h .0) in
     omega (arith, last, size-le (site .disk .n))
 
 -- of two that are equal, the three parts
@@ -64,20 +69,20 @@ put-length site head slot k done fifo img =
     by-test (eqb (site .drive) k) (λ (l : List ℕ). length l ≡ length img) _ img
     (λ _. length-set img (dataPlace site head slot done) (frontOf fifo)) (λ _. refl)
 
-module _ (site : Site) (head slot : ℕ) (efifo : Bool) (fifothr : ℕ) (asks : Bool) where
+module _ (site : Site) (task : Task) (head slot : ℕ) (efifo : Bool) (fifothr : ℕ) (asks : Bool) where
   module _ (img : List ℕ) (done : ℕ) (fifo : Fifo) where
     abbrev filled : Fifo
     filled = readFill site head slot img efifo fifothr done fifo
 
     abbrev reading : ℕ → Pace
-    reading left = readsOf site head slot img efifo fifothr asks left done fifo
+    reading left = readsOf site task head slot img efifo fifothr asks left done fifo
 
     -- what one more tick gives, of those left
     abbrev readOnce : ℕ → ℕ → Pace
     readOnce left m =
-        cond (readRests site efifo done fifo) (paceOf done fifo left)
+        cond (readRests site task efifo done fifo) (paceOf done fifo left)
         (cond (Bool·beq asks (filled .asks))
-        (readsOf site head slot img efifo fifothr asks m (done + 1) filled)
+        (readsOf site task head slot img efifo fifothr asks m (done + 1) filled)
         (paceOf (done + 1) filled m))
 
     pub reads-none : (left : ℕ) → left ≤ 0 → reading left ≡ paceOf done fifo 0
@@ -99,13 +104,13 @@ module _ (site : Site) (head slot : ℕ) (efifo : Bool) (fifothr : ℕ) (asks : 
     drawn = drawnOf efifo fifothr fifo
 
     abbrev storing : ℕ → Stored
-    storing left = storesOf site head slot efifo fifothr asks left done fifo a b
+    storing left = storesOf site task head slot efifo fifothr asks left done fifo a b
 
     abbrev storeOnce : ℕ → ℕ → Stored
     storeOnce left m =
-        cond (storeRests site done fifo) (storedBy (paceOf done fifo left) a b)
+        cond (storeRests site task done fifo) (storedBy (paceOf done fifo left) a b)
         (cond (Bool·beq asks (drawn .asks))
-        (storesOf site head slot efifo fifothr asks m (done + 1) drawn (bytePut site head slot 0 done fifo a)
+        (storesOf site task head slot efifo fifothr asks m (done + 1) drawn (bytePut site head slot 0 done fifo a)
         (bytePut site head slot 1 done fifo b))
         (storedBy (paceOf (done + 1) drawn m) (bytePut site head slot 0 done fifo a)
         (bytePut site head slot 1 done fifo b)))
@@ -126,19 +131,20 @@ module _ (site : Site) (head slot : ℕ) (efifo : Bool) (fifothr : ℕ) (asks : 
 
   -- from a loop that stands at so many left, to its end
   module _ (img : List ℕ) (left done : ℕ) (fifo : Fifo) (whole : Pace)
-      (run : whole ≡ readsOf site head slot img efifo fifothr asks left done fifo)
+      (run : whole ≡ readsOf site task head slot img efifo fifothr asks left done fifo)
     where
       pub read-over : left ≤ 0 → paceOf done fifo 0 ≡ whole
       read-over none = sym (run ∙ reads-none img done fifo left none)
 
-      pub read-rested : 0 < left → readRests site efifo done fifo ≡ true → paceOf done fifo left ≡ whole
+      pub read-rested : 0 < left → readRests site task efifo done fifo ≡ true → paceOf done fifo left ≡ whole
       read-rested some rests = let h = run ∙ reads-step img done fifo left some in sym (rw rests at h)
 
-      module _ (some : 0 < left) (rests : readRests site efifo done fifo ≡ false) (next : Fifo)
+      module _ (some : 0 < left) (rests : readRests site task efifo done fifo ≡ false) (next : Fifo)
           (fill : next ≡ readFill site head slot img efifo fifothr done fifo)
         where
           read-moved : whole
-              ≡ cond (Bool·beq asks (next .asks)) (readsOf site head slot img efifo fifothr asks (left - 1) (done + 1) next)
+              ≡ cond (Bool·beq asks (next .asks))
+              (readsOf site task head slot img efifo fifothr asks (left - 1) (done + 1) next)
               (paceOf (done + 1) next (left - 1))
           read-moved = let h = run ∙ reads-step img done fifo left some in rw (rests, ← fill) at h
 
@@ -146,25 +152,26 @@ module _ (site : Site) (head slot : ℕ) (efifo : Bool) (fifothr : ℕ) (asks : 
           read-turned t = let h = read-moved in sym (rw (not-true (Bool·beq asks (next .asks)) t) at h)
 
           pub read-on : not (Bool·beq asks (next .asks)) ≡ false
-              → whole ≡ readsOf site head slot img efifo fifothr asks (left - 1) (done + 1) next
+              → whole ≡ readsOf site task head slot img efifo fifothr asks (left - 1) (done + 1) next
           read-on t = let h = read-moved in rw (not-false (Bool·beq asks (next .asks)) t) at h
 
   module _ (left done : ℕ) (fifo : Fifo) (a b : List ℕ) (whole : Stored)
-      (run : whole ≡ storesOf site head slot efifo fifothr asks left done fifo a b)
+      (run : whole ≡ storesOf site task head slot efifo fifothr asks left done fifo a b)
     where
       pub store-over : left ≤ 0 → storedBy (paceOf done fifo 0) a b ≡ whole
       store-over none = sym (run ∙ stores-none done fifo a b left none)
 
-      pub store-rested : 0 < left → storeRests site done fifo ≡ true → storedBy (paceOf done fifo left) a b ≡ whole
+      pub store-rested : 0 < left → storeRests site task done fifo ≡ true → storedBy (paceOf done fifo left) a b ≡ whole
       store-rested some rests = let h = run ∙ stores-step done fifo a b left some in sym (rw rests at h)
 
-      module _ (some : 0 < left) (rests : storeRests site done fifo ≡ false) (next : Fifo) (a' b' : List ℕ)
+      module _ (some : 0 < left) (rests : storeRests site task done fifo ≡ false) (next : Fifo) (a' b' : List ℕ)
           (draw : next ≡ drawnOf efifo fifothr fifo)
           (first : a' ≡ bytePut site head slot 0 done fifo a)
           (second : b' ≡ bytePut site head slot 1 done fifo b)
         where
           store-moved : whole
-              ≡ cond (Bool·beq asks (next .asks)) (storesOf site head slot efifo fifothr asks (left - 1) (done + 1) next a' b')
+              ≡ cond (Bool·beq asks (next .asks))
+              (storesOf site task head slot efifo fifothr asks (left - 1) (done + 1) next a' b')
               (storedBy (paceOf (done + 1) next (left - 1)) a' b')
           store-moved =
               let h = run ∙ stores-step done fifo a b left some in rw (rests, ← draw, ← first, ← second) at h
@@ -174,27 +181,27 @@ module _ (site : Site) (head slot : ℕ) (efifo : Bool) (fifothr : ℕ) (asks : 
           store-turned t = let h = store-moved in sym (rw (not-true (Bool·beq asks (next .asks)) t) at h)
 
           pub store-on : not (Bool·beq asks (next .asks)) ≡ false
-              → whole ≡ storesOf site head slot efifo fifothr asks (left - 1) (done + 1) next a' b'
+              → whole ≡ storesOf site task head slot efifo fifothr asks (left - 1) (done + 1) next a' b'
           store-on t = let h = store-moved in rw (not-false (Bool·beq asks (next .asks)) t) at h
 
   -- no more ticks are left than there were
   pub reads-left : (img : List ℕ) (n done : ℕ) (fifo : Fifo)
-      → readsOf site head slot img efifo fifothr asks n done fifo .left ≤ n
+      → readsOf site task head slot img efifo fifothr asks n done fifo .left ≤ n
   unfolding readsOf
   reads-left img zero done fifo = omega arith
   reads-left img (suc n) done fifo =
-      by-test (readRests site efifo done fifo) (λ (p : Pace). p .left ≤ suc n) _ _ (λ _. omega arith)
+      by-test (readRests site task efifo done fifo) (λ (p : Pace). p .left ≤ suc n) _ _ (λ _. omega arith)
       (λ _. by-test (Bool·beq asks (readFill site head slot img efifo fifothr done fifo .asks))
       (λ (p : Pace). p .left ≤ suc n) _ _
       (λ _. omega (arith, reads-left img n (done + 1) (readFill site head slot img efifo fifothr done fifo)))
       (λ _. omega arith))
 
   pub stores-left : (n done : ℕ) (fifo : Fifo) (a b : List ℕ)
-      → storesOf site head slot efifo fifothr asks n done fifo a b .pace .left ≤ n
+      → storesOf site task head slot efifo fifothr asks n done fifo a b .pace .left ≤ n
   unfolding storesOf
   stores-left zero done fifo a b = omega arith
   stores-left (suc n) done fifo a b =
-      by-test (storeRests site done fifo) (λ (s : Stored). s .pace .left ≤ suc n) _ _ (λ _. omega arith)
+      by-test (storeRests site task done fifo) (λ (s : Stored). s .pace .left ≤ suc n) _ _ (λ _. omega arith)
       (λ _. by-test (Bool·beq asks (drawnOf efifo fifothr fifo .asks)) (λ (s : Stored). s .pace .left ≤ suc n) _ _
       (λ _. omega (
         arith,

@@ -199,24 +199,24 @@ module _ (c : Controller) (site : Site) (task : Task) where
 
   -- a byte to the host that is not the last, with room for it
   read-moves : (sector : Sector) (done head : ℕ) (img : List ℕ) (fifo : Fifo) (efifo : Bool) (fifothr : ℕ)
-      → readRests site efifo done fifo ≡ false
+      → readRests site task efifo done fifo ≡ false
       → stageOf (Reading sector done) site task head img fifo efifo fifothr
       ≡ movesOf (Reading sector (done + 1)) site task (readFill site head (sector .slot) img efifo fifothr done fifo)
       Nothing
   unfolding stageOf readOf readOn
   read-moves sector done head img fifo efifo fifothr rests =
-      let tests = neither (fifo .tc || fullOf efifo fifo) (lastByte site done) rests in
+      let tests = neither (fifo .tc || fullOf efifo fifo) (lastByte site task done) rests in
       let first = neither (fifo .tc) (fullOf efifo fifo) (tests .0) in
       rw (first .0, first .1, tests .1)
 
   filled-valid : (sector : Sector) (done done' head : ℕ) (img : List ℕ) (fifo : Fifo) (fifothr : ℕ)
-      → readRests site (c .registers .efifo) done fifo ≡ false
+      → readRests site task (c .registers .efifo) done fifo ≡ false
       → validOf (atOf (Reading sector done) fifo) ≡ true
       → validOf
       (atOf (Reading sector done')
       (readFill site head (sector .slot) img (c .registers .efifo) fifothr done fifo)) ≡ true
   filled-valid sector done done' head img fifo fifothr rests v =
-      let tests = neither (fifo .tc || fullOf (c .registers .efifo) fifo) (lastByte site done) rests in
+      let tests = neither (fifo .tc || fullOf (c .registers .efifo) fifo) (lastByte site task done) rests in
       let first = neither (fifo .tc) (fullOf (c .registers .efifo) fifo) (tests .0) in
       let old = true-valid _ v in
       let room : fifo .count < capacityOf (c .registers .efifo) = leb-false _ _ (first .1) in
@@ -229,8 +229,8 @@ module _ (c : Controller) (site : Site) (task : Task) where
   module _ (sector : Sector) (a b : List ℕ) (s : Steady site a b c) (asks : Bool) where
     abbrev paced : ℕ → ℕ → Fifo → Pace
     paced n done fifo =
-        readsOf site headOf (sector .slot) (pickOf (site .drive) a b) (c .registers .efifo) (c .registers .fifothr) asks n
-        done fifo
+        readsOf site task headOf (sector .slot) (pickOf (site .drive) a b) (c .registers .efifo) (c .registers .fifothr)
+        asks n done fifo
 
     -- what the ticks are by the rules, in terms of how far the short way came
     abbrev ReadFrom : ℕ → ℕ → ℕ → Fifo → Pace → Type 0
@@ -249,7 +249,7 @@ module _ (c : Controller) (site : Site) (task : Task) where
         fifo
 
     read-goes : (n m done : ℕ) (fifo : Fifo) → validOf (atOf (Reading sector done) fifo) ≡ true
-        → readRests site (c .registers .efifo) done fifo ≡ false
+        → readRests site task (c .registers .efifo) done fifo ≡ false
         → runOf (suc n) (ranOf (shown (Reading sector done) fifo) m a b)
         ≡ onwardOf (shown (Reading sector done) fifo) n
         (ranOf (shown (Reading sector (done + 1)) (filled done fifo)) (m + 1) a b)
@@ -265,7 +265,7 @@ module _ (c : Controller) (site : Site) (task : Task) where
     reads-run zero m done fifo v e = read-stays 0 m done fifo
     reads-run (suc n) m done fifo v e =
         let next : Fifo = filled done fifo in
-        by-test (readRests site (c .registers .efifo) done fifo) (ReadFrom (suc n) m done fifo) _ _
+        by-test (readRests site task (c .registers .efifo) done fifo) (ReadFrom (suc n) m done fifo) _ _
         (λ _. read-stays (suc n) m done fifo)
         (λ rests. by-test (Bool·beq asks (next .asks)) (ReadFrom (suc n) m done fifo) _ _
         (λ same.
@@ -282,13 +282,13 @@ module _ (c : Controller) (site : Site) (task : Task) where
 
   -- a byte from the host, with one there
   store-moves : (slot done head : ℕ) (img : List ℕ) (fifo : Fifo) (efifo : Bool) (fifothr : ℕ)
-      → storeRests site done fifo ≡ false
+      → storeRests site task done fifo ≡ false
       → stageOf (Storing slot done) site task head img fifo efifo fifothr
       ≡ movesOf (Storing slot (done + 1)) site task (drawnOf efifo fifothr fifo)
       (Store (dataPlace site head slot done) (frontOf fifo))
   unfolding stageOf storeOf putOf
   store-moves slot done head img fifo efifo fifothr rests =
-      let tests = neither (leb (passBytes site) done) (eqb (fifo .count) 0) rests in rw (tests .0, tests .1)
+      let tests = neither (leb (passBytes site task) done) (eqb (fifo .count) 0) rests in rw (tests .0, tests .1)
 
   drawn-valid : (slot done done' : ℕ) (fifo : Fifo) (fifothr : ℕ) → validOf (atOf (Storing slot done) fifo) ≡ true
       → validOf (atOf (Storing slot done') (drawnOf (c .registers .efifo) fifothr fifo)) ≡ true
@@ -308,7 +308,7 @@ module _ (c : Controller) (site : Site) (task : Task) where
 
     abbrev storing : ℕ → ℕ → Fifo → List ℕ → List ℕ → Stored
     storing n done fifo a b =
-        storesOf site headOf slot (c .registers .efifo) (c .registers .fifothr) asks n done fifo a b
+        storesOf site task headOf slot (c .registers .efifo) (c .registers .fifothr) asks n done fifo a b
 
     abbrev StoredFrom : ℕ → ℕ → ℕ → Fifo → List ℕ → List ℕ → Stored → Type 0
     StoredFrom n m done fifo a b p =
@@ -322,7 +322,7 @@ module _ (c : Controller) (site : Site) (task : Task) where
         let z : m + n - n ≡ m = omega arith in rw z (stay n (ranOf (shown (Storing slot done) fifo) m a b))
 
     store-goes : (n m done : ℕ) (fifo : Fifo) (a b : List ℕ) → Steady site a b c
-        → validOf (atOf (Storing slot done) fifo) ≡ true → storeRests site done fifo ≡ false
+        → validOf (atOf (Storing slot done) fifo) ≡ true → storeRests site task done fifo ≡ false
         → runOf (suc n) (ranOf (shown (Storing slot done) fifo) m a b)
         ≡ onwardOf (shown (Storing slot done) fifo) n
         (ranOf (shown (Storing slot (done + 1)) (drawn fifo)) (m + 1) (put 0 done fifo a) (put 1 done fifo b))
@@ -332,7 +332,7 @@ module _ (c : Controller) (site : Site) (task : Task) where
         (store-moves slot done headOf (pickOf (site .drive) a b) fifo (c .registers .efifo) (c .registers .fifothr) rests)
 
     -- 01 Image: no store touches the header
-    put-behind : (done : ℕ) (fifo : Fifo) (a b : List ℕ) → Steady site a b c → storeRests site done fifo ≡ false
+    put-behind : (done : ℕ) (fifo : Fifo) (a b : List ℕ) → Steady site a b c → storeRests site task done fifo ≡ false
         → 13 ≤ dataPlace site headOf slot done
     unfolding goOnOf workStep
     put-behind done fifo a b s rests =
@@ -344,7 +344,7 @@ module _ (c : Controller) (site : Site) (task : Task) where
         efifo fifothr .behind in
         rw (s .there, store-moves slot done headOf img fifo efifo fifothr rests) at kept
 
-    put-steady : (done : ℕ) (fifo : Fifo) (a b : List ℕ) → Steady site a b c → storeRests site done fifo ≡ false
+    put-steady : (done : ℕ) (fifo : Fifo) (a b : List ℕ) → Steady site a b c → storeRests site task done fifo ≡ false
         → Steady site (put 0 done fifo a) (put 1 done fifo b) c
     unfolding seenOf
     put-steady done fifo a b s rests = record {
@@ -363,7 +363,7 @@ module _ (c : Controller) (site : Site) (task : Task) where
     unfolding storesOf
     stores-run zero m done fifo a b s v e = store-stays 0 m done fifo a b
     stores-run (suc n) m done fifo a b s v e =
-        by-test (storeRests site done fifo) (StoredFrom (suc n) m done fifo a b) _ _
+        by-test (storeRests site task done fifo) (StoredFrom (suc n) m done fifo a b) _ _
         (λ _. store-stays (suc n) m done fifo a b)
         (λ rests. by-test (Bool·beq asks (drawn fifo .asks)) (StoredFrom (suc n) m done fifo a b) _ _
         (λ same.
@@ -431,7 +431,7 @@ module _ (a b : List ℕ) (c : Controller) (four : length (c .drives) ≡ 4) whe
     pub reads-ticks : (site : Site) (task : Task) (sector : Sector) (done : ℕ) (p : Pace)
         → streamIn a b c ≡ Reads site task sector done
         → p
-        ≡ readsOf site (driveAt (site .drive % 4) (c .drives) .head) (sector .slot) (pickOf (site .drive) a b)
+        ≡ readsOf site task (driveAt (site .drive % 4) (c .drives) .head) (sector .slot) (pickOf (site .drive) a b)
         (c .registers .efifo) (c .registers .fifothr) (c .fifo .asks) n done (c .fifo)
         → (p .left ≤ n)
         × (onwardOf (answerOf Done c) (p .left)
@@ -441,7 +441,7 @@ module _ (a b : List ℕ) (c : Controller) (four : length (c .drives) ≡ 4) whe
         let m : Meant a b c (Reads site task sector done) = subst (Meant a b c) stream meant in
         let start = at-start c site task (Reading sector done) (m .1) in
         let ran = reads-run c site task sector a b (m .0) (c .fifo .asks) n 0 done (c .fifo) (rw start v) refl in
-        let few = reads-left site (headOf c site task) (sector .slot) (c .registers .efifo) (c .registers .fifothr)
+        let few = reads-left site task (headOf c site task) (sector .slot) (c .registers .efifo) (c .registers .fifothr)
         (c .fifo .asks) (pickOf (site .drive) a b) n done (c .fifo) in
         let all : 0 + n ≡ n = omega arith in
         (rw (← pace) at few, sym (rw (start, all, ← pace) at ran))
@@ -450,7 +450,7 @@ module _ (a b : List ℕ) (c : Controller) (four : length (c .drives) ≡ 4) whe
     pub stores-ticks : (site : Site) (task : Task) (slot done : ℕ) (p : Pace) (a' b' : List ℕ)
         → streamIn a b c ≡ Stores site task slot done
         → storedBy p a' b'
-        ≡ storesOf site (driveAt (site .drive % 4) (c .drives) .head) slot (c .registers .efifo)
+        ≡ storesOf site task (driveAt (site .drive % 4) (c .drives) .head) slot (c .registers .efifo)
         (c .registers .fifothr) (c .fifo .asks) n done (c .fifo) a b
         → (p .left ≤ n)
         × (onwardOf (answerOf Done c) (p .left)
@@ -460,7 +460,7 @@ module _ (a b : List ℕ) (c : Controller) (four : length (c .drives) ≡ 4) whe
         let m : Meant a b c (Stores site task slot done) = subst (Meant a b c) stream meant in
         let start = at-start c site task (Storing slot done) (m .1) in
         let ran = stores-run c site task slot (c .fifo .asks) n 0 done (c .fifo) a b (m .0) (rw start v) refl in
-        let few = stores-left site (headOf c site task) slot (c .registers .efifo) (c .registers .fifothr) (c .fifo .asks)
-        n done (c .fifo) a b in
+        let few = stores-left site task (headOf c site task) slot (c .registers .efifo) (c .registers .fifothr)
+        (c .fifo .asks) n done (c .fifo) a b in
         let all : 0 + n ≡ n = omega arith in
         (rw (← pace) at few, sym (rw (start, all, ← pace) at ran))

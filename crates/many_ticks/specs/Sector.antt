@@ -11,6 +11,7 @@ use Rattle.image.specs.Lent.{storedAs}
 use Rattle.chip.specs.declared.fifo.Fifo.{Fifo}
 use Rattle.chip.specs.Fifo.{fullOf, frontOf, filledOf, drawnOf}
 use Rattle.sectors.specs.declared.work.Site.{Site}
+use Rattle.sectors.specs.declared.work.Task.{Task}
 use Rattle.sectors.specs.Read.{lastByte}
 use Rattle.sectors.specs.Track.{passBytes, dataPlace}
 use Rattle.many_ticks.specs.declared.sector.Pace.{Pace}
@@ -18,26 +19,27 @@ use Rattle.many_ticks.specs.declared.sector.Pace.{Pace}
 abbrev pub paceOf : ℕ → Fifo → ℕ → Pace
 paceOf done fifo left = record { done = done; fifo = fifo; left = left }
 
--- the ticks that are made in full: after TC, with the FIFO full, and the sector's last byte
-abbrev pub readRests : Site → Bool → ℕ → Fifo → Bool
-readRests site efifo done fifo = fifo .tc || fullOf efifo fifo || lastByte site done
+-- the ticks that are made in full: after TC, with the FIFO full, and from the last byte that passes on
+abbrev pub readRests : Site → Task → Bool → ℕ → Fifo → Bool
+readRests site task efifo done fifo = fifo .tc || fullOf efifo fifo || lastByte site task done
 
 -- 01 Read: a byte a tick
 abbrev pub readFill : Site → ℕ → ℕ → List ℕ → Bool → ℕ → ℕ → Fifo → Fifo
 readFill site head slot img efifo fifothr done fifo =
     filledOf efifo fifothr false (getD img (dataPlace site head slot done) 0) fifo
 
-unfoldable pub readsOf : Site → ℕ → ℕ → List ℕ → Bool → ℕ → Bool → ℕ → ℕ → Fifo → Pace
-readsOf site head slot img efifo fifothr asks zero done fifo = paceOf done fifo 0
-readsOf site head slot img efifo fifothr asks (suc n) done fifo =
-    cond (readRests site efifo done fifo) (paceOf done fifo (suc n))
+unfoldable pub readsOf : Site → Task → ℕ → ℕ → List ℕ → Bool → ℕ → Bool → ℕ → ℕ → Fifo → Pace
+readsOf site task head slot img efifo fifothr asks zero done fifo = paceOf done fifo 0
+readsOf site task head slot img efifo fifothr asks (suc n) done fifo =
+    cond (readRests site task efifo done fifo) (paceOf done fifo (suc n))
     (cond (Bool·beq asks (readFill site head slot img efifo fifothr done fifo .asks))
-    (readsOf site head slot img efifo fifothr asks n (done + 1) (readFill site head slot img efifo fifothr done fifo))
+    (readsOf site task head slot img efifo fifothr asks n (done + 1)
+    (readFill site head slot img efifo fifothr done fifo))
     (paceOf (done + 1) (readFill site head slot img efifo fifothr done fifo) n))
 
--- the ticks that are made in full: all bytes stored, or none to store
-abbrev pub storeRests : Site → ℕ → Fifo → Bool
-storeRests site done fifo = leb (passBytes site) done || eqb (fifo .count) 0
+-- the ticks that are made in full: all bytes passed, or none to store
+abbrev pub storeRests : Site → Task → ℕ → Fifo → Bool
+storeRests site task done fifo = leb (passBytes site task) done || eqb (fifo .count) 0
 
 -- how far it came, and both images
 pub record Stored : Type 0 where
@@ -53,12 +55,12 @@ abbrev pub bytePut : Site → ℕ → ℕ → ℕ → ℕ → Fifo → List ℕ 
 bytePut site head slot k done fifo img =
     storedAs (site .drive) k (Store (dataPlace site head slot done) (frontOf fifo)) img
 
-unfoldable pub storesOf : Site → ℕ → ℕ → Bool → ℕ → Bool → ℕ → ℕ → Fifo → List ℕ → List ℕ → Stored
-storesOf site head slot efifo fifothr asks zero done fifo a b = storedBy (paceOf done fifo 0) a b
-storesOf site head slot efifo fifothr asks (suc n) done fifo a b =
-    cond (storeRests site done fifo) (storedBy (paceOf done fifo (suc n)) a b)
+unfoldable pub storesOf : Site → Task → ℕ → ℕ → Bool → ℕ → Bool → ℕ → ℕ → Fifo → List ℕ → List ℕ → Stored
+storesOf site task head slot efifo fifothr asks zero done fifo a b = storedBy (paceOf done fifo 0) a b
+storesOf site task head slot efifo fifothr asks (suc n) done fifo a b =
+    cond (storeRests site task done fifo) (storedBy (paceOf done fifo (suc n)) a b)
     (cond (Bool·beq asks (drawnOf efifo fifothr fifo .asks))
-    (storesOf site head slot efifo fifothr asks n (done + 1) (drawnOf efifo fifothr fifo)
+    (storesOf site task head slot efifo fifothr asks n (done + 1) (drawnOf efifo fifothr fifo)
     (bytePut site head slot 0 done fifo a) (bytePut site head slot 1 done fifo b))
     (storedBy (paceOf (done + 1) (drawnOf efifo fifothr fifo) n) (bytePut site head slot 0 done fifo a)
     (bytePut site head slot 1 done fifo b)))

@@ -8,6 +8,7 @@ use image::lent::store;
 use sectors::track::data_place;
 use sectors::track::pass_bytes;
 use sectors::work::Site;
+use sectors::work::Task;
 ghost use mathlib.Core.Path.{_≡_};
 ghost use mathlib.Core.Bool.{Bool·beq, not};
 ghost use Rattle.image.specs.Lent.{pickOf};
@@ -26,17 +27,18 @@ fn turned(asks: bool, next: bool) -> bool
     !(asks == next)
 }
 
-// TC, a full FIFO, or the sector's last byte.
-fn read_rests(site: Site, efifo: bool, done: u16, fifo: Fifo) -> bool
-    ensures { λ r. ⌜ r ≡ readRests site efifo done fifo ⌝ }
+// TC, a full FIFO, or the last byte that passes.
+fn read_rests(site: Site, task: Task, efifo: bool, done: u16, fifo: Fifo) -> bool
+    ensures { λ r. ⌜ r ≡ readRests site task efifo done fifo ⌝ }
 {
-    fifo.tc | fifo.full(efifo) | (pass_bytes(site) <= done as usize + 1)
+    fifo.tc | fifo.full(efifo) | (pass_bytes(site, task) <= done as usize + 1)
 }
 
 fn read_bytes(
     slot: u8,
     from: u16,
     site: Site,
+    task: Task,
     head: u8,
     s: &[u8],
     f: Fifo,
@@ -44,14 +46,14 @@ fn read_bytes(
     fifothr: u8,
     n: u32,
 ) -> Pace
-    ensures { λ r. ⌜ r ≡ readsOf site head slot (now (s .entry)) efifo fifothr (f .asks) n from f ⌝ }
+    ensures { λ r. ⌜ r ≡ readsOf site task head slot (now (s .entry)) efifo fifothr (f .asks) n from f ⌝ }
 {
     let asks = f.asks;
     let mut done = from;
     let mut fifo = f;
     let mut left = n;
     while 0 < left {
-        let rests = read_rests(site, efifo, done, fifo);
+        let rests = read_rests(site, task, efifo, done, fifo);
         if rests {
             return Pace { done, fifo, left };
         }
@@ -81,6 +83,7 @@ pub fn reads<'a>(
     slot: u8,
     from: u16,
     site: Site,
+    task: Task,
     head: u8,
     a: &'a [u8],
     b: &'a [u8],
@@ -90,7 +93,7 @@ pub fn reads<'a>(
     n: u32,
 ) -> Pace
     ensures { λ r. ⌜ r
-        ≡ readsOf site head slot (pickOf (site .drive) (now (a .entry)) (now (b .entry))) efifo fifothr (f .asks) n
+        ≡ readsOf site task head slot (pickOf (site .drive) (now (a .entry)) (now (b .entry))) efifo fifothr (f .asks) n
         from f ⌝ }
 {
     let drive = site.drive;
@@ -98,6 +101,7 @@ pub fn reads<'a>(
         slot,
         from,
         site,
+        task,
         head,
         pick(drive, a, b),
         f,
@@ -107,17 +111,18 @@ pub fn reads<'a>(
     )
 }
 
-// All bytes stored, or none to store.
-fn store_rests(site: Site, done: u16, fifo: Fifo) -> bool
-    ensures { λ r. ⌜ r ≡ storeRests site done fifo ⌝ }
+// All bytes passed, or none to store.
+fn store_rests(site: Site, task: Task, done: u16, fifo: Fifo) -> bool
+    ensures { λ r. ⌜ r ≡ storeRests site task done fifo ⌝ }
 {
-    (pass_bytes(site) <= done as usize) | (fifo.count == 0)
+    (pass_bytes(site, task) <= done as usize) | (fifo.count == 0)
 }
 
 pub fn stores(
     slot: u8,
     from: u16,
     site: Site,
+    task: Task,
     head: u8,
     a: &mut [u8],
     b: &mut [u8],
@@ -127,18 +132,18 @@ pub fn stores(
     n: u32,
 ) -> Pace
     ensures pace { λ r. ⌜ r
-        ≡ storesOf site head slot efifo fifothr (f .asks) n from f (now (a .entry)) (now (b .entry)) .pace ⌝ }
+        ≡ storesOf site task head slot efifo fifothr (f .asks) n from f (now (a .entry)) (now (b .entry)) .pace ⌝ }
     ensures first { λ _. ⌜ now (a .exit)
-        ≡ storesOf site head slot efifo fifothr (f .asks) n from f (now (a .entry)) (now (b .entry)) .first ⌝ }
+        ≡ storesOf site task head slot efifo fifothr (f .asks) n from f (now (a .entry)) (now (b .entry)) .first ⌝ }
     ensures second { λ _. ⌜ now (b .exit)
-        ≡ storesOf site head slot efifo fifothr (f .asks) n from f (now (a .entry)) (now (b .entry)) .second ⌝ }
+        ≡ storesOf site task head slot efifo fifothr (f .asks) n from f (now (a .entry)) (now (b .entry)) .second ⌝ }
 {
     let asks = f.asks;
     let mut done = from;
     let mut fifo = f;
     let mut left = n;
     while 0 < left {
-        let rests = store_rests(site, done, fifo);
+        let rests = store_rests(site, task, done, fifo);
         if rests {
             return Pace { done, fifo, left };
         }

@@ -620,7 +620,7 @@ rule-of (takes tc) c =
     by-test (validOf c) (Ruled (takes tc) c) _ _ (λ _. take-rule tc c) (λ _. same (takes tc) c _ (refuses _))
 rule-of (gives byte tc) c =
     by-test (validOf c) (Ruled (gives byte tc) c) _ _ (λ _. give-rule byte tc c)
-    (λ _. same (gives byte tc) c _ (refuses _)))
+    (λ _. same (gives byte tc) c _ (refuses _))
 rule-of (ticks a b) c = tick-rule a b c
 rule-of (notes drive) c =
     by-test (not (validOf c)) (Ruled (notes drive) c) _ _ (λ _. same (notes drive) c _ (refuses _))

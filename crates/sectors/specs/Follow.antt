@@ -39,9 +39,14 @@ followedOf (OtherSide id) slot site task fifo effect =
 followedOf (SameSide id) slot site task fifo effect =
     movesOf (Searching (freshAt (nextSlot slot (site .disk .slots)))) site (withId id task) fifo effect
 
+-- 01 Next: how far R goes below EOT
+abbrev pub stepOf : Task → ℕ
+stepOf task = 1
+
 unfoldable pub followOf : ℕ → Bool → Site → Task → Fifo → Effect → Step
 followOf slot tc site task fifo effect =
-    followedOf (nextOf (task .id) (task .transfer .eot) (task .transfer .mt) (site .side) tc) slot site task fifo effect
+    followedOf (nextOf (task .id) (task .transfer .eot) (task .transfer .mt) (site .side) (stepOf task) tc) slot site task
+    fifo effect
 
 -- 01 Data commands: for an MT turn, the tests in the tick after it, and nothing else in that tick (R1)
 unfoldable pub turnOf : ℕ → Site → Task → ℕ → Fifo → Step

@@ -15,20 +15,24 @@ use Rattle.sectors.specs.declared.work.Step.{Step}
 use Rattle.sectors.specs.declared.work.Task.{Task}
 use Rattle.sectors.specs.Follow.{followOf}
 use Rattle.sectors.specs.Result.{moveEnd, moveFails, movesOf}
-use Rattle.sectors.specs.Track.{dataPlace, passBytes}
+use Rattle.sectors.specs.Track.{dataPlace, passBytes, sectorBytes}
 
 -- 01 Read: a byte to move and the FIFO full: ST1 10
 unfoldable pub overrun : Site → Task → Step
 overrun site task = moveFails 0x10 0x00 site task
 
--- that byte is the sector's last
-abbrev pub lastByte : Site → ℕ → Bool
-lastByte site done = leb (passBytes site) (done + 1)
+-- 01 FIFO, for the request: that byte is the sector's last one sent
+abbrev pub lastByte : Site → Task → ℕ → Bool
+lastByte site task done = leb (passBytes site task) (done + 1)
+
+-- the sector ends with that byte
+abbrev pub sectorOver : Site → ℕ → Bool
+sectorOver site done = leb (sectorBytes site) (done + 1)
 
 -- one byte further
 unfoldable pub readOn : Sector → ℕ → Site → Task → Fifo → Step
 readOn sector done site task fifo =
-    cond (lastByte site done) (movesOf (Draining sector 0) site task fifo Nothing)
+    cond (sectorOver site done) (movesOf (Draining sector 0) site task fifo Nothing)
     (movesOf (Reading sector (done + 1)) site task fifo Nothing)
 
 -- 01 Read: a byte a tick; after TC no byte follows and the sector is run to its end. The byte is that of the image
@@ -38,7 +42,7 @@ readOf sector done site task head img fifo efifo fifothr =
     cond (fifo .tc) (readOn sector done site task fifo)
     (cond (fullOf efifo fifo) (overrun site task)
     (readOn sector done site task
-    (filledOf efifo fifothr (lastByte site done) (getD img (dataPlace site head (sector .slot) done) 0) fifo)))
+    (filledOf efifo fifothr (lastByte site task done) (getD img (dataPlace site head (sector .slot) done) 0) fifo)))
 
 -- 01 Read: a look that finds none, in this order: broken, ST1 20, ST2 20; other kind, IC 00, address as it was,
 -- before TC (R9); else Next

@@ -1,5 +1,5 @@
 -- Where a data command works (01 Data commands, "The track is the one under the drive's head, on the side in use"),
--- whether that track is there, and how many bytes a sector has.
+-- whether that track is there, how many bytes a sector has, and how many of them pass.
 -- Assumes nothing.
 use Prim.Native.Nat.{ℕ, _+_}
 use mathlib.Core.Bool.{Bool, false, _&&_, cond}
@@ -9,6 +9,7 @@ use Rattle.image.specs.declared.disk.Disk.the-variants.{Absent, Present}
 use Rattle.image.specs.declared.layout.Geometry.{Geometry}
 use Rattle.image.specs.Layout.{offsetOf, sameOf, sizeOf}
 use Rattle.sectors.specs.declared.work.Site.{Site}
+use Rattle.sectors.specs.declared.work.Task.{Task}
 
 -- 01 Data commands: no such track or side
 unfoldable pub hasTrack : Geometry → ℕ → ℕ → Bool
@@ -31,9 +32,13 @@ dataPlace site head slot done = markPlace site head slot + 5 + done
 abbrev pub sectorBytes : Site → ℕ
 sectorBytes site = sizeOf (site .disk .n)
 
--- and those of them that pass between disk and host: all
-abbrev pub passBytes : Site → ℕ
-passBytes site = sectorBytes site
+-- and those of them that pass between disk and host, by N and DTL: all, whatever DTL says. Where the sector ends is
+-- `sectorBytes`
+abbrev pub passOf : ℕ → ℕ → ℕ
+passOf n dtl = sizeOf n
+
+abbrev pub passBytes : Site → Task → ℕ
+passBytes site task = passOf (site .disk .n) (task .transfer .dtl)
 
 -- 01 Search: from the slot after the last used, which after slot S - 1 is slot 0 (R2)
 abbrev pub nextSlot : ℕ → ℕ → ℕ

@@ -14,7 +14,7 @@ use Rattle.sectors.specs.declared.work.Step.{Step}
 use Rattle.sectors.specs.declared.work.Task.{Task}
 use Rattle.sectors.specs.Follow.{followOf}
 use Rattle.sectors.specs.Result.{moveFails, movesOf}
-use Rattle.sectors.specs.Track.{dataPlace, markPlace, passBytes}
+use Rattle.sectors.specs.Track.{dataPlace, markPlace, sectorBytes}
 
 -- 01 Write: a byte to store, the FIFO empty without TC: ST1 10, the sector stays broken
 unfoldable pub underrun : Site → Task → Step
@@ -51,6 +51,6 @@ writtenOf slot site task head fifo =
 -- 01 Write: B bytes, one a tick
 unfoldable pub storeOf : ℕ → ℕ → Site → Task → ℕ → Fifo → Bool → ℕ → Step
 storeOf slot done site task head fifo efifo fifothr =
-    cond (leb (passBytes site) done) (writtenOf slot site task head fifo)
+    cond (leb (sectorBytes site) done) (writtenOf slot site task head fifo)
     (cond (eqb (fifo .count) 0) (dryOf slot done site task head fifo)
     (putOf (frontOf fifo) slot done site task head (drawnOf efifo fifothr fifo)))

@@ -15,7 +15,7 @@ use chip::next::Next;
 use image::lent::Effect;
 use image::slot::Id;
 ghost use mathlib.Core.Path.{_≡_};
-ghost use Rattle.sectors.specs.Follow.{freshAt, withId, onSide, followedOf, followOf, turnOf};
+ghost use Rattle.sectors.specs.Follow.{freshAt, withId, onSide, followedOf, stepOf, followOf, turnOf};
 
 pub fn fresh_at(slot: u8) -> Search
     ensures { λ r. ⌜ r ≡ freshAt slot ⌝ }
@@ -69,12 +69,19 @@ fn followed(next: Next, slot: u8, site: Site, task: Task, fifo: Fifo, effect: Ef
     }
 }
 
+fn step_of(task: Task) -> u8
+    ensures { λ r. ⌜ r ≡ stepOf task ⌝ }
+{
+    1
+}
+
 pub fn follow(slot: u8, tc: bool, site: Site, task: Task, fifo: Fifo, effect: Effect) -> Step
     ensures { λ r. ⌜ r ≡ followOf slot tc site task fifo effect ⌝ }
 {
     let id = task.id;
     let transfer = task.transfer;
-    let next = chip::next::follow(id, transfer.eot, transfer.mt, site.side, tc);
+    let step = step_of(task);
+    let next = chip::next::follow(id, transfer.eot, transfer.mt, site.side, step, tc);
     followed(next, slot, site, task, fifo, effect)
 }
 

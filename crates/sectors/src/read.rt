@@ -5,6 +5,7 @@ use crate::follow::follow;
 use crate::result::moves;
 use crate::track::data_place;
 use crate::track::pass_bytes;
+use crate::track::sector_bytes;
 use crate::work::Sector;
 use crate::work::Site;
 use crate::work::Stage;
@@ -23,16 +24,17 @@ fn overrun_end(site: Site, task: Task) -> Step
     move_fails(0x10, 0x00, site, task)
 }
 
-fn last_byte(site: Site, done: u16) -> bool
-    ensures { λ r. ⌜ r ≡ lastByte site done ⌝ }
+// For the request: the last byte sent.
+fn last_byte(site: Site, task: Task, done: u16) -> bool
+    ensures { λ r. ⌜ r ≡ lastByte site task done ⌝ }
 {
-    pass_bytes(site) <= done as usize + 1
+    pass_bytes(site, task) <= done as usize + 1
 }
 
 fn read_on(sector: Sector, done: u16, site: Site, task: Task, fifo: Fifo) -> Step
     ensures { λ r. ⌜ r ≡ readOn sector done site task fifo ⌝ }
 {
-    if pass_bytes(site) <= done as usize + 1 {
+    if sector_bytes(site) <= done as usize + 1 {
         return moves(
             Stage::Draining(sector, 0),
             site,
@@ -71,7 +73,7 @@ pub fn read(
         return overrun_end(site, task);
     }
     let byte = byte_at(s, data_place(site, head, sector.slot, done));
-    let f = fifo.filled(efifo, fifothr, last_byte(site, done), byte);
+    let f = fifo.filled(efifo, fifothr, last_byte(site, task, done), byte);
     read_on(sector, done, site, task, f)
 }
 

@@ -1,5 +1,6 @@
 // Where a data command works (01 Data commands): the track under the drive's head, on the side in use.
 use crate::work::Site;
+use crate::work::Task;
 use image::disk::Disk;
 use image::layout::Geometry;
 use image::layout::size_of;
@@ -8,7 +9,15 @@ use image::slot::slot_in;
 ghost use mathlib.Core.Path.{_≡_};
 ghost use Prim.Native.Nat.{_≤_};
 ghost use Rattle.sectors.specs.Search.{slotOf};
-ghost use Rattle.sectors.specs.Track.{hasTrack, staysOf, markPlace, dataPlace, sectorBytes, passBytes, nextSlot};
+ghost use Rattle.sectors.specs.Track.{
+  hasTrack,
+  staysOf,
+  markPlace,
+  dataPlace,
+  sectorBytes,
+  passBytes,
+  nextSlot,
+};
 
 pub fn has_track(g: Geometry, head: u8, side: u8) -> bool
     ensures { λ r. ⌜ r ≡ hasTrack g head side ⌝ }
@@ -55,8 +64,9 @@ pub fn sector_bytes(site: Site) -> usize
     size_of(disk.n)
 }
 
-pub fn pass_bytes(site: Site) -> usize
-    ensures { λ r. ⌜ r ≡ passBytes site ⌝ }
+// Where bytes pass to or from the host; a sector ends at `sector_bytes`.
+pub fn pass_bytes(site: Site, task: Task) -> usize
+    ensures { λ r. ⌜ r ≡ passBytes site task ⌝ }
     ensures { λ r. ⌜ r ≤ 1024 ⌝ }
 {
     sector_bytes(site)

@@ -4,7 +4,7 @@ use crate::follow::follow;
 use crate::result::moves;
 use crate::track::data_place;
 use crate::track::mark_place;
-use crate::track::pass_bytes;
+use crate::track::sector_bytes;
 use crate::work::Site;
 use crate::work::Stage;
 use crate::work::Step;
@@ -113,7 +113,7 @@ pub fn store(
 ) -> Step
     ensures { λ r. ⌜ r ≡ storeOf slot done site task head fifo efifo fifothr ⌝ }
 {
-    if pass_bytes(site) <= done as usize {
+    if sector_bytes(site) <= done as usize {
         return written(slot, site, task, head, fifo);
     }
     let empty = fifo.count == 0;

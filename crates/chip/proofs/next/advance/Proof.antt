@@ -17,7 +17,7 @@ advance-spec =
       c .either2 .ensures,
       c .before .turned-byte .ensures,
       at-c .either .ensures,
-      at-c .before .after-byte .ensures,
+      at-c .before .after-by .ensures,
     ))
     (λ c κs. search needs)
-    (λ c. rw (c .before .if1 .left, c .after-byte2 .ensures)))
+    (λ c. rw (c .before .if1 .left, c .after-by2 .ensures)))

@@ -17,9 +17,9 @@ fill-spec =
       le-leb _ _ (c .before .before .before .if1 .taken),
     )
     (c .formed .ensures ∙ rw (c .before .mark-byte .ensures, c .before .before .mark-place .ensures .0)))
-    (λ c κs. search needs) (λ c κs. search needs) (λ c. search needs) (λ c κs. search needs)
+    (λ c κs. search needs) (λ c κs. search needs)
     (λ c. simp (
-      ← c .before .before .before .before .sector-bytes .ensures .0,
-      lt-leb _ _ (c .before .before .before .if1 .left),
+      ← c .before .before .before .sector-bytes .ensures .0,
+      lt-leb _ _ (c .before .before .if1 .left),
     )
-    (c .forms .ensures ∙ rw (c .before .formatted-byte .ensures, c .before .before .data-place .ensures))))
+    (c .put-laid .ensures ∙ rw (c .before .lay .ensures))))

@@ -19,9 +19,9 @@ storing-spec =
     let needs = start .pre in
     let ends = at-stores .stores .ensures in
     stores-ticks (args .a .now) (args .b .now) (args .c) (needs .1 .0) (needs .0) (args .n) (args .site) (args .task)
-    (args .slot) (args .done) (at-stores .stores .result) (at-stores .stores .last .1 .1 .1 .1 .0) (at-stores .stores
-    .last .1 .1 .1 .1 .1 .0) (needs .1 .1) (rw (← at-drive .drive .ensures) (stored-parts (ends .0) (ends .1 .0)
-    (ends .1 .1))) .0)
+    (args .slot) (args .done) (at-stores .stores .result) (at-stores .stores .last .1 .1 .1 .1 .1 .0)
+    (at-stores .stores .last .1 .1 .1 .1 .1 .1 .0) (needs .1 .1)
+    (rw (← at-drive .drive .ensures) (stored-parts (ends .0) (ends .1 .0) (ends .1 .1))) .0)
     (λ c. search needs) (λ c. search needs)
     (λ c.
     let at-onward = c .before .before .before .before in
@@ -34,8 +34,8 @@ storing-spec =
     let needs = start .pre in
     let ends = at-stores .stores .ensures in
     let whole = stores-ticks (args .a .now) (args .b .now) (args .c) (needs .1 .0) (needs .0) (args .n) (args .site)
-    (args .task) (args .slot) (args .done) (at-stores .stores .result) (at-stores .stores .last .1 .1 .1 .1 .0)
-    (at-stores .stores .last .1 .1 .1 .1 .1 .0) (needs .1 .1) (rw (← at-drive .drive .ensures) (stored-parts (ends
+    (args .task) (args .slot) (args .done) (at-stores .stores .result) (at-stores .stores .last .1 .1 .1 .1 .1 .0)
+    (at-stores .stores .last .1 .1 .1 .1 .1 .1 .0) (needs .1 .1) (rw (← at-drive .drive .ensures) (stored-parts (ends
     .0) (ends .1 .0) (ends .1 .1))) .1 in
     let made = at-onward .onward .ensures in
     rw (← whole) (rw (at-fifo .with-fifo .ensures, at-phase .with-phase .ensures) at made)))

@@ -11,11 +11,12 @@ use Rattle.many_ticks.proofs.sector.read_bytes.Statement.{statement}
 use Rattle.many_ticks.proofs.sector.read_bytes.Tie as tie
 
 abbrev Inv-loop : tie.InvT-loop
-Inv-loop slot from site head s efifo fifothr n asks done₀ fifo₀ left₀ done fifo left =
-    readsOf site head slot s efifo fifothr asks n from fifo₀ ≡ readsOf site head slot s efifo fifothr asks left done fifo
+Inv-loop slot from site task head s efifo fifothr n asks done₀ fifo₀ left₀ done fifo left =
+    readsOf site task head slot s efifo fifothr asks n from fifo₀
+    ≡ readsOf site task head slot s efifo fifothr asks left done fifo
 
 abbrev μ-loop : tie.MeasureT-loop
-μ-loop slot from site head s efifo fifothr n asks done₀ fifo₀ left₀ done fifo left = left
+μ-loop slot from site task head s efifo fifothr n asks done₀ fifo₀ left₀ done fifo left = left
 
 loop-holds : tie.Need-loop-holds Inv-loop μ-loop
 loop-holds c = refl
@@ -29,8 +30,8 @@ returns c =
     let at-loop = c .before .before .before in
     let args = at-loop .before .before .args in
     let loop = at-loop .loop in
-    read-rested (args .site) (args .head) (args .slot) (args .efifo) (args .fifothr) (args .f .asks) (args .s .now)
-    (loop .left) (loop .done) (loop .fifo) _ (loop .inv) (c .before .before .loop-test .taken)
+    read-rested (args .site) (args .task) (args .head) (args .slot) (args .efifo) (args .fifothr) (args .f .asks)
+    (args .s .now) (loop .left) (loop .done) (loop .fifo) _ (loop .inv) (c .before .before .loop-test .taken)
     (sym (c .before .read-rests .ensures) ∙ c .if1 .taken)
 
 data-place-requires : tie.Need-data-place-requires Inv-loop μ-loop
@@ -51,7 +52,7 @@ add-done c =
     let loop = at-rests .before .before .loop in
     let args = at-rests .before .before .before .before .args in
     let room : loop .done + 1 < 1024 =
-    read-room (args .site) (args .efifo) (loop .done) (loop .fifo)
+    read-room (args .site) (args .task) (args .efifo) (loop .done) (loop .fifo)
     (sym (at-rests .read-rests .ensures) ∙ c .before .before .before .if1 .left) in
     omega arith
 
@@ -69,8 +70,8 @@ returns-2 c =
     let at-test = at-rests .before in
     let loop = at-test .before .loop in
     let args = at-test .before .before .before .args in
-    read-turned (args .site) (args .head) (args .slot) (args .efifo) (args .fifothr) (args .f .asks) (args .s .now)
-    (loop .left) (loop .done) (loop .fifo) _ (loop .inv) (at-test .loop-test .taken)
+    read-turned (args .site) (args .task) (args .head) (args .slot) (args .efifo) (args .fifothr) (args .f .asks)
+    (args .s .now) (loop .left) (loop .done) (loop .fifo) _ (loop .inv) (at-test .loop-test .taken)
     (sym (at-rests .read-rests .ensures) ∙ at-if1 .if1 .left) (at-filled .filled .result)
     (rw (← at-place .data-place .ensures, ← at-byte-at .byte-at .ensures) (at-filled .filled .ensures))
     (sym (c .before .turned .ensures) ∙ c .if2 .taken)
@@ -88,8 +89,8 @@ loop-again c =
     let at-test = at-rests .before in
     let loop = at-test .before .loop in
     let args = at-test .before .before .before .args in
-    read-on (args .site) (args .head) (args .slot) (args .efifo) (args .fifothr) (args .f .asks) (args .s .now)
-    (loop .left) (loop .done) (loop .fifo) _ (loop .inv) (at-test .loop-test .taken)
+    read-on (args .site) (args .task) (args .head) (args .slot) (args .efifo) (args .fifothr) (args .f .asks)
+    (args .s .now) (loop .left) (loop .done) (loop .fifo) _ (loop .inv) (at-test .loop-test .taken)
     (sym (at-rests .read-rests .ensures) ∙ at-if1 .if1 .left) (at-filled .filled .result)
     (rw (← at-place .data-place .ensures, ← at-byte-at .byte-at .ensures) (at-filled .filled .ensures))
     (sym (c .before .turned .ensures) ∙ c .if2 .left)
@@ -99,8 +100,8 @@ returns-3 : tie.Need-returns-3 Inv-loop μ-loop
 returns-3 c =
     let loop = c .before .loop in
     let args = c .before .before .before .args in
-    read-over (args .site) (args .head) (args .slot) (args .efifo) (args .fifothr) (args .f .asks) (args .s .now)
-    (loop .left) (loop .done) (loop .fifo) _ (loop .inv) (c .loop-test .left)
+    read-over (args .site) (args .task) (args .head) (args .slot) (args .efifo) (args .fifothr) (args .f .asks)
+    (args .s .now) (loop .left) (loop .done) (loop .fifo) _ (loop .inv) (c .loop-test .left)
 
 pub read-bytes-spec : {M : Type 1} → statement M
 read-bytes-spec =

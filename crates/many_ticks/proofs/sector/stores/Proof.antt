@@ -12,14 +12,14 @@ use Rattle.many_ticks.proofs.sector.stores.Statement.{statement}
 use Rattle.many_ticks.proofs.sector.stores.Tie as tie
 
 abbrev Inv-loop : tie.InvT-loop
-Inv-loop slot from site head a₀ b₀ efifo fifothr n asks done₀ fifo₀ left₀ a b done fifo left =
+Inv-loop slot from site task head a₀ b₀ efifo fifothr n asks done₀ fifo₀ left₀ a b done fifo left =
     (length a ≡ length a₀)
     × (length b ≡ length b₀)
-    × (storesOf site head slot efifo fifothr asks n from fifo₀ a₀ b₀
-    ≡ storesOf site head slot efifo fifothr asks left done fifo a b)
+    × (storesOf site task head slot efifo fifothr asks n from fifo₀ a₀ b₀
+    ≡ storesOf site task head slot efifo fifothr asks left done fifo a b)
 
 abbrev μ-loop : tie.MeasureT-loop
-μ-loop slot from site head a₀ b₀ efifo fifothr n asks done₀ fifo₀ left₀ a b done fifo left = left
+μ-loop slot from site task head a₀ b₀ efifo fifothr n asks done₀ fifo₀ left₀ a b done fifo left = left
 
 loop-holds : tie.Need-loop-holds Inv-loop μ-loop
 loop-holds c = (refl, refl, refl)
@@ -40,8 +40,8 @@ returns c =
     let args = at-loop .before .before .before .args in
     let loop = at-loop .loop in
     parts
-    (store-rested (args .site) (args .head) (args .slot) (args .efifo) (args .fifothr) (args .f .asks) (loop .left)
-    (loop .done) (loop .fifo) (loop .a) (loop .b) _ (loop .inv .2) (c .before .before .loop-test .taken)
+    (store-rested (args .site) (args .task) (args .head) (args .slot) (args .efifo) (args .fifothr) (args .f .asks)
+    (loop .left) (loop .done) (loop .fifo) (loop .a) (loop .b) _ (loop .inv .2) (c .before .before .loop-test .taken)
     (sym (c .before .store-rests .ensures) ∙ c .if1 .taken))
 
 data-place-requires : tie.Need-data-place-requires Inv-loop μ-loop
@@ -66,7 +66,8 @@ add-done c =
     let loop = at-rests .before .before .loop in
     let args = at-rests .before .before .before .before .before .args in
     let room : loop .done < 1024 =
-    store-room (args .site) (loop .done) (loop .fifo) (sym (at-rests .store-rests .ensures) ∙ at-if1 .if1 .left) in
+    store-room (args .site) (args .task) (loop .done) (loop .fifo)
+    (sym (at-rests .store-rests .ensures) ∙ at-if1 .if1 .left) in
     omega arith
 
 turned-requires : tie.Need-turned-requires Inv-loop μ-loop
@@ -91,8 +92,8 @@ returns-2 c =
     let loop = at-test .before .loop in
     let args = at-test .before .before .before .before .args in
     parts
-    (store-turned (args .site) (args .head) (args .slot) (args .efifo) (args .fifothr) (args .f .asks) (loop .left)
-    (loop .done) (loop .fifo) (loop .a) (loop .b) _ (loop .inv .2) (at-test .loop-test .taken)
+    (store-turned (args .site) (args .task) (args .head) (args .slot) (args .efifo) (args .fifothr) (args .f .asks)
+    (loop .left) (loop .done) (loop .fifo) (loop .a) (loop .b) _ (loop .inv .2) (at-test .loop-test .taken)
     (sym (at-rests .store-rests .ensures) ∙ at-if1 .if1 .left) (at-drawn .drawn .result) (at-store .store .last .1 .1 .0)
     (at-store .store .last .1 .1 .1 .0) (at-drawn .drawn .ensures)
     (rw (← at-place .data-place .ensures, ← at-front .front .ensures) (at-store .store .ensures .0))
@@ -123,8 +124,8 @@ loop-again c =
           ∙ loop .inv .0,
       ap length second ∙ put-length (args .site) (args .head) (args .slot) 1 (loop .done) (loop .fifo) (loop .b)
           ∙ loop .inv .1,
-      store-on (args .site) (args .head) (args .slot) (args .efifo) (args .fifothr) (args .f .asks) (loop .left)
-          (loop .done) (loop .fifo) (loop .a) (loop .b) _ (loop .inv .2) (at-test .loop-test .taken)
+      store-on (args .site) (args .task) (args .head) (args .slot) (args .efifo) (args .fifothr) (args .f .asks)
+          (loop .left) (loop .done) (loop .fifo) (loop .a) (loop .b) _ (loop .inv .2) (at-test .loop-test .taken)
           (sym (at-rests .store-rests .ensures) ∙ at-if1 .if1 .left) (at-drawn .drawn .result) (at-store .store .last .1 .1 .0)
           (at-store .store .last .1 .1 .1 .0) (at-drawn .drawn .ensures) first second
           (sym (c .before .turned .ensures) ∙ c .if2 .left),
@@ -142,8 +143,8 @@ returns-3 c =
     let loop = c .before .loop in
     let args = c .before .before .before .before .args in
     parts
-    (store-over (args .site) (args .head) (args .slot) (args .efifo) (args .fifothr) (args .f .asks) (loop .left)
-    (loop .done) (loop .fifo) (loop .a) (loop .b) _ (loop .inv .2) (c .loop-test .left))
+    (store-over (args .site) (args .task) (args .head) (args .slot) (args .efifo) (args .fifothr) (args .f .asks)
+    (loop .left) (loop .done) (loop .fifo) (loop .a) (loop .b) _ (loop .inv .2) (c .loop-test .left))
 
 pub stores-spec : {M : Type 1} → statement M
 stores-spec =

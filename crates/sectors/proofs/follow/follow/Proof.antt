@@ -10,5 +10,5 @@ unfolding followOf
 follow-spec =
     tie.close
     (tie.spec
-    (λ c κs. search needs) (λ c κs. search needs)
-    (λ c. c .followed .ensures ∙ rw (c .before .follow .ensures)))
+    (λ c κs. search needs) (λ c κs. search needs) (λ c κs. search needs)
+    (λ c. c .followed .ensures ∙ rw (c .before .follow .ensures, c .before .before .step-of .ensures)))

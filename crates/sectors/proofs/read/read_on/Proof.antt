@@ -11,6 +11,6 @@ read-on-spec =
     tie.close
     (tie.spec
     (λ c κs. search needs) (λ c. search needs) (λ c κs. search needs)
-    (λ c. simp (← c .before .before .pass-bytes .ensures .0, le-leb _ _ (c .before .if1 .taken)) (c .moves .ensures))
+    (λ c. simp (← c .before .before .sector-bytes .ensures .0, le-leb _ _ (c .before .if1 .taken)) (c .moves .ensures))
     (λ c. search needs) (λ c κs. search needs)
-    (λ c. simp (← c .before .before .pass-bytes .ensures .0, lt-leb _ _ (c .before .if1 .left)) (c .moves2 .ensures)))
+    (λ c. simp (← c .before .before .sector-bytes .ensures .0, lt-leb _ _ (c .before .if1 .left)) (c .moves2 .ensures)))

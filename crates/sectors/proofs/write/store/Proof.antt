@@ -12,16 +12,16 @@ store-spec =
     tie.close
     (tie.spec
     (λ c κs. search needs) (λ c κs. search needs)
-    (λ c. simp (← c .before .before .pass-bytes .ensures .0, le-leb _ _ (c .before .if1 .taken)) (c .written .ensures))
+    (λ c. simp (← c .before .before .sector-bytes .ensures .0, le-leb _ _ (c .before .if1 .taken)) (c .written .ensures))
     (λ c κs. search needs)
     (λ c. simp (
-      ← c .before .before .before .before .pass-bytes .ensures .0,
+      ← c .before .before .before .before .sector-bytes .ensures .0,
       lt-leb _ _ (c .before .before .before .if1 .left),
       c .before .if2 .taken,
     ) (c .dry .ensures))
     (λ c κs. search needs) (λ c κs. search needs) (λ c κs. search needs)
     (λ c. simp (
-      ← c .before .before .before .before .before .before .pass-bytes .ensures .0,
+      ← c .before .before .before .before .before .before .sector-bytes .ensures .0,
       lt-leb _ _ (c .before .before .before .before .before .if1 .left),
       c .before .before .before .if2 .left,
     )

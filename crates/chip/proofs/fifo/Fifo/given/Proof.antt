@@ -12,11 +12,11 @@ unfolding givenOf
 given-spec =
     tie.close
     (tie.spec
-    (λ c κs. search needs)
-    (λ c. rw (← c .before .full .ensures, c .if1 .taken))
+    (λ c κs. search needs) (λ c κs. search needs)
+    (λ c. rw (← c .before .before .full .ensures, c .before .if1 .taken) (c .flagged .ensures))
     (λ c κs. let a = c .before .before .args in
     room-left (a .efifo) (a .self .count) (sym (c .before .full .ensures) ∙ c .if1 .left))
     (λ c κs. search needs) (λ c κs. search needs)
     (λ c. let at-push = c .before .before .before .before .before in let at-full = at-push .before .before in
     rw (← at-full .full .ensures, at-push .before .if1 .left)
-    (c .flagged .ensures ∙ rw (c .before .before .before .capacity .ensures, at-push .pushed .ensures))))
+    (c .flagged2 .ensures ∙ rw (c .before .before .before .capacity .ensures, at-push .pushed .ensures))))
