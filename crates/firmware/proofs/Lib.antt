@@ -1,4 +1,5 @@
 pub mod StepShapeLaws
+pub mod NumbersLaws
 pub mod TypedLaws
 pub mod AnyBytesLaws
 pub mod Examples

@@ -1,8 +1,8 @@
 -- What every record reached from power-on keeps to (01 Refusals 4, "No record reached from power-on by calls earns 4").
 -- Assumes nothing.
-use Prim.Native.Nat.{ℕ, zero, suc, _/_, _≤_, _<_}
+use Prim.Native.Nat.{ℕ, _/_, _≤_}
 use native.Mathlib.Omega.{arith}
-use mathlib.Core.Bool.{Bool, true, false, _&&_, true≢false}
+use mathlib.Core.Bool.{true, false, true≢false}
 use mathlib.Core.List.{List, [], _∷_}
 use mathlib.Core.Path.{_≡_, refl}
 use Rattle.chip.specs.declared.codes.Entry.{Entry}
@@ -32,17 +32,10 @@ use Rattle.fdc.proofs.ValidLaws.{valid-true}
 use Rattle.reached.specs.Good.{Four, Suits, Good}
 use Rattle.reached.specs.Runs.{Call, powers, answerTo, after, runCalls, Reached}
 use Rattle.reached.proofs.Rules.{engaged, DriveRule, kept, noted, powered, reset, restarted, released, sensed, set-off, ticked, Collects, first, further, Told, Acts, begins, goes-on, bytesThen, phaseThen, Rest, refuses, shows, steps, flags, sets, anew, took, gave, gathers, says, idles, specifies, configures, senses, starts, acts}
-use Rattle.reached.proofs.RuleLaws.{collects-unengaged, acts-kept, rule-of}
+use Rattle.reached.proofs.RuleLaws.{each-of, collects-unengaged, acts-kept, rule-of}
 
 pub four-of : (a b c d : Drive) → Within a → Within b → Within c → Within d → Four (a ∷ b ∷ c ∷ d ∷ [])
-four-of a b c d wa wb wc wd = record { long = refl; each = each }
-  where
-    each : (k : ℕ) → k < 4 → Within (driveAt k (a ∷ b ∷ c ∷ d ∷ []))
-    each zero h = wa
-    each (suc zero) h = wb
-    each (suc (suc zero)) h = wc
-    each (suc (suc (suc zero))) h = wd
-    each (suc (suc (suc (suc k)))) h = absurd (omega arith)
+four-of a b c d wa wb wc wd = record { long = refl; each = each-of Within a b c d wa wb wc wd }
 
 -- of any phase, at most nine command bytes and a wait of at most 64
 gathered-le : (p : Phase) (n : ℕ) (f : Fifo) → Suits p n f → n ≤ 9
@@ -83,7 +76,7 @@ pub within-rule : (call : Call) (c : Controller) (p : Phase) (k : ℕ) (e : Driv
     → Within (driveAt k (c .drives)) → Within e
 within-rule call c p k e kept w = w
 within-rule call c p k e noted w = within-noted _ w
-within-rule call c p k e (powered head h r) w = within-fresh head h
+within-rule call c p k e (powered head h x y q) w = within-fresh head h
 within-rule call c p k e (reset r) w = within-reset _ w
 within-rule call c p k e (restarted report r) w = within-reported _ (within-reset _ w) report
 within-rule call c p k e (released report h) w = within-reported _ w report
@@ -145,85 +138,86 @@ module _ (call : Call) (c : Controller) (g : Good c) where
   settled s (Ends v) n f e w = record { fifo = f; fifothr = g .fifothr; left = omega arith; phase = (refl, e) }
   settled s (Works work) n f e w = record { fifo = f; fifothr = g .fifothr; left = g .left; phase = (n, omega arith) }
 
-  holds : (reply : Reply) (r : Registers) (f : Fifo) (b : Bytes) (p : Phase) → Rest call c reply r f b p → Holds r f b p
-  holds reply r f b p (refuses refusal) = same
-  holds reply r f b p (shows offset byte q o) = same
-  holds reply r f b p (steps x y q) = same
-  holds reply r f b p (flags drive q) = same
-  holds reply r f b p (sets offset byte q o n s) = record {
+  holds : (drives : List Drive) (reply : Reply) (r : Registers) (f : Fifo) (b : Bytes) (p : Phase)
+      → Rest call c drives reply r f b p → Holds r f b p
+  holds ds reply r f b p (refuses refusal) = same
+  holds ds reply r f b p (shows offset byte q o) = same
+  holds ds reply r f b p (steps x y q) = same
+  holds ds reply r f b p (flags drive q) = same
+  holds ds reply r f b p (sets offset byte q o n s) = record {
     fifo = rw (s .efifo) (g .fifo);
     fifothr = rw (s .fifothr) (g .fifothr);
     left = g .left;
     phase = g .phase;
   }
-  holds reply r f b p (anew x reply′ n e t s) = record {
+  holds ds reply r f b p (anew x reply′ n e t s m) = record {
     fifo = rw e (fits-emptied true);
     fifothr = omega (arith, t);
     left = omega arith;
     phase = (refl, refl);
   }
-  holds reply r f b p (took tc x work q h asks) = record {
+  holds ds reply r f b p (took tc x work q h asks) = record {
     fifo = fits-taken (c .registers .efifo) tc (c .fifo) (g .fifo);
     fifothr = g .fifothr;
     left = g .left;
     phase = suits-fifo (c .phase) work _ (c .fifo) _ q (g .phase);
   }
-  holds reply r f b p (gave byte tc x work q h asks) = record {
+  holds ds reply r f b p (gave byte tc x work q h asks) = record {
     fifo = fits-given (c .registers .efifo) _ byte (c .fifo) (g .fifo);
     fifothr = g .fifothr;
     left = g .left;
     phase = suits-fifo (c .phase) work _ (c .fifo) _ q (g .phase);
   }
-  holds reply r f b p (gathers b′ t l m k) = record {
+  holds ds reply r f b p (gathers b′ t l m k) = record {
     fifo = g .fifo;
     fifothr = g .fifothr;
     left = m (g .left);
     phase = (l, entry-le c (t .byte) (t .entry) (t .by) g, told-empty _ t);
   }
-  holds reply r f b p (says h free reply′ results left l m k) = record {
+  holds ds reply r f b p (says h free reply′ results left l m k) = record {
     fifo = g .fifo;
     fifothr = g .fifothr;
     left = m (g .left);
     phase = (refl, empty h);
   }
-  holds reply r f b p (idles h free reply′) = record {
+  holds ds reply r f b p (idles h free reply′) = record {
     fifo = g .fifo;
     fifothr = g .fifothr;
     left = omega arith;
     phase = (refl, empty h);
   }
-  holds reply r f b p (specifies command t h second) = record {
+  holds ds reply r f b p (specifies command t h second) = record {
     fifo = g .fifo;
     fifothr = g .fifothr;
     left = omega arith;
     phase = (refl, told-empty command t);
   }
-  holds reply r f b p (configures command t h byte track) = record {
+  holds ds reply r f b p (configures command t h byte track) = record {
     fifo = rw (told-empty command t) (fits-emptied _);
     fifothr = omega arith;
     left = omega arith;
     phase = (refl, told-empty command t);
   }
-  holds reply r f b p (senses command t h unit) = record {
+  holds ds reply r f b p (senses command t h unit) = record {
     fifo = g .fifo;
     fifothr = g .fifothr;
     left = omega arith;
     phase = (refl, told-empty command t);
   }
-  holds reply r f b p (starts command t h order o) = record {
+  holds ds reply r f b p (starts command t h order o) = record {
     fifo = g .fifo;
     fifothr = g .fifothr;
     left = omega arith;
     phase = (refl, told-empty command t);
   }
-  holds reply r f b p (acts x y q h s a) =
+  holds ds reply r f b p (acts x y q h s a) =
       let k = acts-kept x y c s a in
       settled s (s .then) (none-of x y c s a g) (k .2 (g .fifo)) (k .1) (k .0)
 
 pub good-after : (call : Call) (c : Controller) → Good c → Good (after call c)
 good-after call c g =
     let u = rule-of call c in
-    let h = holds call c g _ _ _ _ _ (u .rest) in
+    let h = holds call c g _ _ _ _ _ _ (u .rest) in
     record {
       drives = record {
         long = u .long (g .drives .long);

@@ -14,15 +14,13 @@ use Rattle.image.specs.Lent.{pickOf}
 use Rattle.chip.specs.declared.codes.Entry.{Entry}
 use Rattle.chip.specs.declared.codes.Kind.{Kind}
 use Rattle.chip.specs.declared.codes.Kind.the-variants.{Unknown, ReadData, ReadDeleted, WriteData, WriteDeleted, ReadId, Format, Recalibrate, SenseInterrupt, Specify, SenseDrive, Seek, Version, Configure}
-use Rattle.chip.specs.declared.fifo.Fifo.{Fifo}
 use Rattle.chip.specs.declared.refusal.Refusal.the-variants.{Damaged}
 use Rattle.chip.specs.Commands.{entryOf}
 use Rattle.chip.proofs.StepLaws.{step-most}
 use Rattle.drive.specs.declared.Drive.{Drive}
 use Rattle.drive.specs.declared.Motion.{Motion}
-use Rattle.drive.specs.declared.Motion.the-variants.{Seeking, Recalibrating}
+use Rattle.drive.specs.declared.Motion.the-variants.{Still, Seeking, Recalibrating}
 use Rattle.drive.specs.Drive.{distance, recalibrateSteps, firstWait, notedOf, accepted, waitOf}
-use Rattle.drive.specs.Drive.{sensedOf as sensedDrive}
 use Rattle.engine.specs.declared.flow.Flow.{Flow}
 use Rattle.engine.specs.declared.flow.Flow.the-variants.{Quiet, ToHost, FromHost}
 use Rattle.sectors.specs.declared.order.Order.{Order}
@@ -33,7 +31,6 @@ use Rattle.sectors.specs.declared.work.Work.{Work}
 use Rattle.engine.specs.Kept.{thenWait, thenFifo}
 use Rattle.engine.specs.Step.{toHost, fromHost, flowOf, driveOf}
 use Rattle.engine.proofs.KeptLaws.{begin-kept, go-on-kept}
-use Rattle.fdc.specs.declared.answer.Answer.{Answer}
 use Rattle.fdc.specs.declared.answer.Reply.{Reply}
 use Rattle.fdc.specs.declared.answer.Reply.the-variants.{Done, Byte, Refused}
 use Rattle.fdc.specs.declared.ports.Port.{Port}
@@ -47,13 +44,13 @@ use Rattle.fdc.specs.Answer.{answerOf}
 use Rattle.fdc.specs.Calls.{portOf, readReg, writeReg, powerOn, readPort, writePort, dmaRead, dmaWrite, noteChange}
 use Rattle.fdc.specs.Commands.{answeredOf, saidOf, saidTwo, idledOf, lowest, specifyOf, configureOf, sensingOf, reporterOf, sensedOf, ticksOf, soughtOf, recalibratedOf, startedOf, ranOf, heedsOf, runOf, gatheredOf, goesOn, begunOf}
 use Rattle.fdc.specs.Data.{shifted, resultTaken, readIn, readFifo, offeredOf, writeFifo, phaseToHost, phaseFromHost, dmaReadOf, dmaWriteOf}
-use Rattle.fdc.specs.Record.{freshOf, noDrive, driveAt, withRegisters, withDrives, withFifo, withBytes, withPhase, withDrive, validOf}
+use Rattle.fdc.specs.Record.{freshOf, driveAt, withRegisters, withDrives, withFifo, withBytes, withPhase, withDrive, validOf}
 use Rattle.fdc.specs.Registers.{heldIn, gateIn, dmaIn, bit, busyBits, flowStatus, phaseStatus, msrOf, flowAsks, phaseAsks, drqOf, anyBusy}
 use Rattle.fdc.specs.Reset.{resetAll, resetOf, reportAll, releasedBy, releasedOf, withDor, withTdr, withRate, wroteDor, wroteDsr}
 use Rattle.chip.specs.Fifo.{Fits}
 use Rattle.fdc.specs.Ticks.{seenOf, tickAll, steppedOf, sensedAt, stillOf, settledOf, decidedOf, startOf, workOf, decideIn, decideOf, ruledOf, tickOf}
 use Rattle.reached.specs.Runs.{Call, powers, reads, writes, takes, gives, ticks, notes, answerTo}
-use Rattle.reached.proofs.Rules.{engaged, Restarts, by-power, by-dor, by-dsr, DriveRule, kept, noted, powered, reset, restarted, released, sensed, set-off, ticked, SameSettings, Takes, by-read, by-cycle, Gives, by-write, by-dma, Collects, first, further, Told, Orders, moving, formatting, identifying, Acts, begins, goes-on, bytesThen, phaseThen, Rest, refuses, shows, steps, flags, sets, anew, took, gave, gathers, says, idles, specifies, configures, senses, starts, acts, Ruled}
+use Rattle.reached.proofs.Rules.{engaged, Restarts, by-power, by-dor, by-dsr, DriveRule, kept, noted, powered, reset, restarted, released, sensed, set-off, ticked, SameSettings, by-read, by-cycle, by-write, by-dma, Collects, first, further, Told, Orders, moving, formatting, identifying, Acts, begins, goes-on, bytesThen, phaseThen, Rest, refuses, shows, steps, flags, sets, anew, took, gave, gathers, says, idles, specifies, configures, senses, starts, acts, Ruled}
 
 -- offset 2 is DOR, 4 DSR, 5 the data register
 abbrev AtPort : Port → ℕ → Type 0
@@ -126,39 +123,25 @@ write-turn FromHost true asks busy h e = wrong-turn 0x10 2 busy h (inl (omega ar
 write-turn FromHost false true busy h e = (refl, refl)
 write-turn FromHost false false busy h e = wrong-turn 0x30 2 busy h (inl (omega arith)) e
 
--- 01 Registers DRQ: a line that is on with a direction is a request of a command at work
-to-host-works : (p : Phase) (asks : Bool) → phaseToHost p ≡ true → phaseAsks p asks ≡ true
-    → (work : Work) × (p ≡ Working work) × (toHost (flowOf work) ≡ true) × (asks ≡ true)
-to-host-works Idle asks h e = absurd (false≢true h)
-to-host-works (Gathering entry) asks h e = absurd (false≢true h)
-to-host-works (Starting order) asks h e = absurd (false≢true h)
-to-host-works (Working work) asks h e = (work, refl, h, go (flowOf work) h e)
-  where
-    go : (f : Flow) → toHost f ≡ true → flowAsks f asks ≡ true → asks ≡ true
-    go Quiet h e = absurd (false≢true h)
-    go ToHost h e = e
-    go FromHost h e = absurd (false≢true h)
-to-host-works (Sensing unit) asks h e = absurd (false≢true h)
-to-host-works (Answering loud) asks h e = absurd (false≢true h)
-
-from-host-works : (p : Phase) (asks : Bool) → phaseFromHost p ≡ true → phaseAsks p asks ≡ true
-    → (work : Work) × (p ≡ Working work) × (fromHost (flowOf work) ≡ true) × (asks ≡ true)
-from-host-works Idle asks h e = absurd (false≢true h)
-from-host-works (Gathering entry) asks h e = absurd (false≢true h)
-from-host-works (Starting order) asks h e = absurd (false≢true h)
-from-host-works (Working work) asks h e = (work, refl, h, go (flowOf work) h e)
-  where
-    go : (f : Flow) → fromHost f ≡ true → flowAsks f asks ≡ true → asks ≡ true
-    go Quiet h e = absurd (false≢true h)
-    go ToHost h e = absurd (false≢true h)
-    go FromHost h e = e
-from-host-works (Sensing unit) asks h e = absurd (false≢true h)
-from-host-works (Answering loud) asks h e = absurd (false≢true h)
-
-drq-asks : (c : Controller) → drqOf c ≡ true → phaseAsks (c .phase) (c .fifo .asks) ≡ true
+-- 01 Registers DRQ: a line that is on is a request of a command at work
+drq-works : (c : Controller) → drqOf c ≡ true → (work : Work) × (c .phase ≡ Working work) × (c .fifo .asks ≡ true)
 unfolding drqOf
-drq-asks c e =
-    both (gateIn (c .registers .dor) && dmaIn (c .registers .spec2)) (phaseAsks (c .phase) (c .fifo .asks)) e .1
+drq-works c e =
+    go (c .phase)
+    (both (gateIn (c .registers .dor) && dmaIn (c .registers .spec2)) (phaseAsks (c .phase) (c .fifo .asks)) e .1)
+  where
+    flows : (f : Flow) → flowAsks f (c .fifo .asks) ≡ true → c .fifo .asks ≡ true
+    flows Quiet e = absurd (false≢true e)
+    flows ToHost e = e
+    flows FromHost e = e
+
+    go : (p : Phase) → phaseAsks p (c .fifo .asks) ≡ true → (work : Work) × (p ≡ Working work) × (c .fifo .asks ≡ true)
+    go Idle e = absurd (false≢true e)
+    go (Gathering entry) e = absurd (false≢true e)
+    go (Starting order) e = absurd (false≢true e)
+    go (Working work) e = (work, refl, flows (flowOf work) e)
+    go (Sensing unit) e = absurd (false≢true e)
+    go (Answering loud) e = absurd (false≢true e)
 
 -- the drive whose report is taken has one
 reporter-reports : (drives : List Drive) → eqb (reporterOf drives) 4 ≡ false
@@ -197,6 +180,22 @@ one-set (x ∷ drives) (suc j) (suc k) d = up (one-set drives j k d)
     up (inl p) = inl (ap (λ (n : ℕ). suc n) (p .0), p .1)
     up (inr e) = inr e
 
+-- what holds of four drives
+each-at : (P : ℕ → Drive → Type 0) (a b c d : Drive) → P 0 a → P 1 b → P 2 c → P 3 d → (k : ℕ) → k < 4
+    → P k (driveAt k (a ∷ b ∷ c ∷ d ∷ []))
+each-at P a b c d pa pb pc pd zero h = pa
+each-at P a b c d pa pb pc pd (suc zero) h = pb
+each-at P a b c d pa pb pc pd (suc (suc zero)) h = pc
+each-at P a b c d pa pb pc pd (suc (suc (suc zero))) h = pd
+each-at P a b c d pa pb pc pd (suc (suc (suc (suc k)))) h = absurd (omega arith)
+
+pub each-of : (P : Drive → Type 0) (a b c d : Drive) → P a → P b → P c → P d → (k : ℕ) → k < 4
+    → P (driveAt k (a ∷ b ∷ c ∷ d ∷ []))
+each-of P a b c d pa pb pc pd k h = each-at (λ (n : ℕ) (x : Drive). P x) a b c d pa pb pc pd k h
+
+abbrev Stands : Drive → Type 0
+Stands d = d .motion ≡ Still
+
 -- the rules of drives: all as they were, one written anew, all anew
 module _ (call : Call) (c : Controller) (p : Phase) where
   abbrev Drives : List Drive → Type 0
@@ -213,55 +212,43 @@ module _ (call : Call) (c : Controller) (p : Phase) where
       go (inl q) = rw (q .1, q .0) r
       go (inr e) = rw e kept
 
+  each : (x y z w : Drive) → DriveRule call c p 0 x → DriveRule call c p 1 y → DriveRule call c p 2 z
+      → DriveRule call c p 3 w → Drives (x ∷ y ∷ z ∷ w ∷ [])
+  each x y z w = each-at (λ (k : ℕ) (e : Drive). DriveRule call c p k e) x y z w
+
   drives-reset : Restarts call → Drives (resetAll (c .drives))
   unfolding resetAll
-  drives-reset r zero h = reset r
-  drives-reset r (suc zero) h = reset r
-  drives-reset r (suc (suc zero)) h = reset r
-  drives-reset r (suc (suc (suc zero))) h = reset r
-  drives-reset r (suc (suc (suc (suc k)))) h = absurd (omega arith)
+  drives-reset r = each _ _ _ _ (reset r) (reset r) (reset r) (reset r)
 
   drives-restarted : Restarts call → Drives (reportAll (resetAll (c .drives)))
   unfolding resetAll reportAll
-  drives-restarted r zero h = restarted _ r
-  drives-restarted r (suc zero) h = restarted _ r
-  drives-restarted r (suc (suc zero)) h = restarted _ r
-  drives-restarted r (suc (suc (suc zero))) h = restarted _ r
-  drives-restarted r (suc (suc (suc (suc k)))) h = absurd (omega arith)
+  drives-restarted r = each _ _ _ _ (restarted _ r) (restarted _ r) (restarted _ r) (restarted _ r)
 
   drives-released : heldIn (c .registers .dor) ≡ true → Drives (reportAll (c .drives))
   unfolding reportAll
-  drives-released e zero h = released _ e
-  drives-released e (suc zero) h = released _ e
-  drives-released e (suc (suc zero)) h = released _ e
-  drives-released e (suc (suc (suc zero))) h = released _ e
-  drives-released e (suc (suc (suc (suc k)))) h = absurd (omega arith)
+  drives-released e = each _ _ _ _ (released _ e) (released _ e) (released _ e) (released _ e)
 
   drives-ticked : (a b : List ℕ) → call ≡ ticks a b → heldIn (c .registers .dor) ≡ false
       → (m0 m1 : Bool) → Drives (tickAll (c .drives) m0 m1 (ticksOf c))
   unfolding tickAll
-  drives-ticked a b q f m0 m1 zero h = ticked a b q f m0
-  drives-ticked a b q f m0 m1 (suc zero) h = ticked a b q f m1
-  drives-ticked a b q f m0 m1 (suc (suc zero)) h = ticked a b q f false
-  drives-ticked a b q f m0 m1 (suc (suc (suc zero))) h = ticked a b q f false
-  drives-ticked a b q f m0 m1 (suc (suc (suc (suc k)))) h = absurd (omega arith)
+  drives-ticked a b q f m0 m1 =
+      each _ _ _ _ (ticked a b q f m0) (ticked a b q f m1) (ticked a b q f false) (ticked a b q f false)
 
-  drives-powered : (head0 head1 : ℕ) → head0 ≤ 81 → head1 ≤ 81 → Restarts call → Drives (freshOf head0 head1 .drives)
+  drives-powered : (head0 head1 x y : ℕ) → head0 ≤ 81 → head1 ≤ 81 → call ≡ powers x y
+      → Drives (freshOf head0 head1 .drives)
   unfolding freshOf
-  drives-powered head0 head1 l m r zero h = powered head0 l r
-  drives-powered head0 head1 l m r (suc zero) h = powered head1 m r
-  drives-powered head0 head1 l m r (suc (suc zero)) h = powered 0 (omega arith) r
-  drives-powered head0 head1 l m r (suc (suc (suc zero))) h = powered 0 (omega arith) r
-  drives-powered head0 head1 l m r (suc (suc (suc (suc k)))) h = absurd (omega arith)
+  drives-powered head0 head1 x y l m e =
+      each _ _ _ _ (powered head0 l x y e) (powered head1 m x y e) (powered 0 (omega arith) x y e)
+      (powered 0 (omega arith) x y e)
 
 -- all drives as they were; the whole record as it was
 module _ (call : Call) (c : Controller) where
   leaves : (reply : Reply) (e : Controller) → e .drives ≡ c .drives
-      → Rest call c reply (e .registers) (e .fifo) (e .bytes) (e .phase) → Ruled call c (answerOf reply e)
+      → Rest call c (e .drives) reply (e .registers) (e .fifo) (e .bytes) (e .phase) → Ruled call c (answerOf reply e)
   unfolding answerOf
   leaves reply e d r = record { rest = r; drives = λ k h. rw d kept; long = λ l. rw d l }
 
-  same : (reply : Reply) → Rest call c reply (c .registers) (c .fifo) (c .bytes) (c .phase)
+  same : (reply : Reply) → Rest call c (c .drives) reply (c .registers) (c .fifo) (c .bytes) (c .phase)
       → Ruled call c (answerOf reply c)
   same reply r = leaves reply c refl r
 
@@ -418,24 +405,22 @@ module _ (byte : ℕ) (c : Controller) (e : eqb (msrOf c / 64) 2 ≡ true) where
 
 -- the DMA cycles
 take-rule : (tc : Bool) (c : Controller) → Ruled (takes tc) c (dmaReadOf tc c)
-unfolding withFifo answerOf
+unfolding dmaReadOf withFifo answerOf
 take-rule tc c =
-    rw (dma-read-is tc c)
-    (by-test (drqOf c && phaseToHost (c .phase)) (Ruled (takes tc) c) _ _
+    by-test (drqOf c && phaseToHost (c .phase)) (Ruled (takes tc) c) _ _
     (λ t. let (line, to) = both (drqOf c) (phaseToHost (c .phase)) t in
-    let (work, p, w, asks) = to-host-works (c .phase) (c .fifo .asks) to (drq-asks c line) in
-    leaves (takes tc) c _ _ refl (took tc (by-cycle tc refl) work p w asks))
-    (λ _. same (takes tc) c _ (refuses _)))
+    let (work, p, asks) = drq-works c line in
+    leaves (takes tc) c _ _ refl (took tc (by-cycle tc refl) work p (sym (ap phaseToHost p) ∙ to) asks))
+    (λ _. same (takes tc) c _ (refuses _))
 
 give-rule : (byte : ℕ) (tc : Bool) (c : Controller) → Ruled (gives byte tc) c (dmaWriteOf byte tc c)
-unfolding withFifo answerOf
+unfolding dmaWriteOf withFifo answerOf
 give-rule byte tc c =
-    rw (dma-write-is byte tc c)
-    (by-test (drqOf c && phaseFromHost (c .phase)) (Ruled (gives byte tc) c) _ _
+    by-test (drqOf c && phaseFromHost (c .phase)) (Ruled (gives byte tc) c) _ _
     (λ t. let (line, from) = both (drqOf c) (phaseFromHost (c .phase)) t in
-    let (work, p, w, asks) = from-host-works (c .phase) (c .fifo .asks) from (drq-asks c line) in
-    leaves (gives byte tc) c _ _ refl (gave byte tc (by-dma tc refl) work p w asks))
-    (λ _. same (gives byte tc) c _ (refuses _)))
+    let (work, p, asks) = drq-works c line in
+    leaves (gives byte tc) c _ _ refl (gave byte tc (by-dma tc refl) work p (sym (ap phaseFromHost p) ∙ from) asks))
+    (λ _. same (gives byte tc) c _ (refuses _))
 
 -- the registers
 read-rule : (offset : ℕ) (p : Port) (c : Controller) → AtPort p offset → Ruled (reads offset) c (readReg p c)
@@ -451,11 +436,9 @@ read-rule offset Data c o =
 read-rule offset Input c o = same (reads offset) c _ (shows offset _ refl o)
 
 -- a release, by POLL
-module _ (call : Call) (c : Controller) where
-  releasing : (P : Controller → Type 0) (e : Controller) → P e → P (withDrives (reportAll (e .drives)) e)
-      → P (releasedOf e)
-  unfolding releasedOf releasedBy
-  releasing P e x y = by-test (e .registers .poll) P _ _ (λ _. x) (λ _. y)
+releasing : (P : Controller → Type 0) (e : Controller) → P e → P (withDrives (reportAll (e .drives)) e) → P (releasedOf e)
+unfolding releasedOf releasedBy
+releasing P e x y = by-test (e .registers .poll) P _ _ (λ _. x) (λ _. y)
 
 module _ (offset byte : ℕ) (c : Controller) where
   abbrev Wrote : Controller → Type 0
@@ -467,22 +450,22 @@ module _ (offset byte : ℕ) (c : Controller) where
       by-test (heldIn byte) Wrote _ _
       (λ h. let r : Restarts (writes offset byte) = by-dor byte (ap (λ (n : ℕ). writes n byte) o) h in
       record {
-        rest = anew r Done _ refl refl (inr refl);
+        rest = anew r Done _ refl refl (inr refl) (each-of Stands _ _ _ _ refl refl refl refl);
         drives = drives-reset (writes offset byte) c Idle r;
         long = λ _. refl;
       })
       (λ f. by-test (heldIn (c .registers .dor)) Wrote _ _
-      (λ h. releasing (writes offset byte) c (λ (x : Controller). Wrote (withDor byte x)) c
-      (leaves (writes offset byte) c _ _ refl (keeps f))
+      (λ h. releasing (λ (x : Controller). Wrote (withDor byte x)) c (leaves (writes offset byte) c _ _ refl (keeps _ f))
       (record {
-        rest = keeps f;
+        rest = keeps _ f;
         drives = drives-released (writes offset byte) c _ h;
         long = λ _. refl;
       }))
-      (λ _. leaves (writes offset byte) c _ _ refl (keeps f)))
+      (λ _. leaves (writes offset byte) c _ _ refl (keeps _ f)))
     where
-      keeps : heldIn byte ≡ false → Rest (writes offset byte) c Done (withDor byte c .registers) (c .fifo) (c .bytes) (c .phase)
-      keeps f =
+      keeps : (drives : List Drive) → heldIn byte ≡ false
+          → Rest (writes offset byte) c drives Done (withDor byte c .registers) (c .fifo) (c .bytes) (c .phase)
+      keeps drives f =
           sets offset byte refl (λ x. omega arith) _
           (record { held = λ h. absurd (false≢true (sym f ∙ h)); spec1 = refl; efifo = refl; fifothr = refl })
 
@@ -502,14 +485,14 @@ module _ (offset byte : ℕ) (c : Controller) where
       by-test (eqb (byte / 128) 1 && not (heldIn (c .registers .dor))) Wrote _ _
       (λ t. let r : Restarts (writes offset byte) = by-dsr byte (ap (λ (n : ℕ). writes n byte) o)
       (both (eqb (byte / 128) 1) (not (heldIn (c .registers .dor))) t .0) in
-      releasing (writes offset byte) c (λ (x : Controller). Wrote (withRate byte x)) (resetOf c)
+      releasing (λ (x : Controller). Wrote (withRate byte x)) (resetOf c)
       (record {
-        rest = anew r Done _ refl refl (inr refl);
+        rest = anew r Done _ refl refl (inr refl) (each-of Stands _ _ _ _ refl refl refl refl);
         drives = drives-reset (writes offset byte) c Idle r;
         long = λ _. refl;
       })
       (record {
-        rest = anew r Done _ refl refl (inr refl);
+        rest = anew r Done _ refl refl (inr refl) (each-of Stands _ _ _ _ refl refl refl refl);
         drives = drives-restarted (writes offset byte) c Idle r;
         long = λ _. refl;
       }))
@@ -538,7 +521,9 @@ module _ (a b : List ℕ) (c : Controller) where
   settled f s x =
       go (s .then) (acts a b refl f s x)
     where
-      go : (then : Then) → Rest (ticks a b) c Done (c .registers) (s .fifo) (bytesThen then (c .bytes)) (phaseThen then)
+      go : (then : Then)
+          → Rest (ticks a b) c (steppedOf a b c .drives) Done (c .registers) (s .fifo) (bytesThen then (c .bytes))
+          (phaseThen then)
           → Ticked (settledOf then (s .fifo) (steppedOf a b c))
       go (Ends v) r = record { rest = r; drives = drives-ticked (ticks a b) c _ a b refl f _ _; long = λ _. refl }
       go (Works w) r = record { rest = r; drives = drives-ticked (ticks a b) c _ a b refl f _ _; long = λ _. refl }
@@ -591,8 +576,8 @@ power-rule head0 head1 c =
     fresh-rule : (reply : Reply) (x y : ℕ) → x ≤ 81 → y ≤ 81 → Ruled (powers head0 head1) c (answerOf reply (freshOf x y))
     fresh-rule reply x y h k =
         record {
-          rest = anew (by-power head0 head1 refl) reply _ refl refl (inl refl);
-          drives = drives-powered (powers head0 head1) c Idle x y h k (by-power head0 head1 refl);
+          rest = anew (by-power head0 head1 refl) reply _ refl refl (inl refl) (each-of Stands _ _ _ _ refl refl refl refl);
+          drives = drives-powered (powers head0 head1) c Idle x y head0 head1 h k refl;
           long = λ _. refl;
         }
 

@@ -3,7 +3,7 @@
 -- holds where it is taken. What the records keep to is then one function over each of the two; `RuleLaws` has that every
 -- call is by these rules.
 -- Assumes nothing.
-use Prim.Native.Nat.{ℕ, _+_, _/_, _≤_, _<_}
+use Prim.Native.Nat.{ℕ, _/_, _≤_, _<_}
 use mathlib.Core.Bool.{Bool, true, false, _&&_}
 use mathlib.Core.List.{List, [], _∷_}
 use mathlib.Core.Logic.{_⊎_}
@@ -17,6 +17,7 @@ use Rattle.chip.specs.declared.refusal.Refusal.{Refusal}
 use Rattle.chip.specs.Fifo.{emptied, frontOf, takenOf, givenOf}
 use Rattle.drive.specs.declared.Drive.{Drive}
 use Rattle.drive.specs.declared.Motion.{Motion}
+use Rattle.drive.specs.declared.Motion.the-variants.{Still}
 use Rattle.drive.specs.Drive.{fresh, reportedOf, sensedOf, notedOf, accepted, waitOf}
 use Rattle.drive.specs.Drive.{resetOf as resetDrive}
 use Rattle.drive.specs.Step.{tickOf as tickDrive}
@@ -63,7 +64,7 @@ pub data Restarts (call : Call) : Type 0 where
 pub data DriveRule (call : Call) (c : Controller) (p : Phase) (k : ℕ) : Drive → Type 0 where
   kept : DriveRule call c p k (driveAt k (c .drives))
   noted : DriveRule call c p k (notedOf (driveAt k (c .drives)))
-  powered : (head : ℕ) → head ≤ 81 → Restarts call → DriveRule call c p k (fresh head)
+  powered : (head : ℕ) → head ≤ 81 → (head0 head1 : ℕ) → call ≡ powers head0 head1 → DriveRule call c p k (fresh head)
   reset : Restarts call → DriveRule call c p k (resetDrive (driveAt k (c .drives)))
   restarted : (report : ℕ) → Restarts call → DriveRule call c p k (reportedOf report (resetDrive (driveAt k (c .drives))))
   released : (report : ℕ) → heldIn (c .registers .dor) ≡ true
@@ -133,52 +134,54 @@ abbrev pub phaseThen : Then → Phase
 phaseThen (Ends v) = Answering true
 phaseThen (Works work) = Working work
 
--- the reply, and all but the drives
-pub data Rest (call : Call) (c : Controller) : Reply → Registers → Fifo → Bytes → Phase → Type 0 where
+-- the reply, and all but the drives; they are named where none of them moves
+pub data Rest (call : Call) (c : Controller) (drives : List Drive) : Reply → Registers → Fifo → Bytes → Phase → Type 0 where
   -- as it was: a refusal, a register read, a tick in which drives step at most, the disk-change note
-  refuses : (refusal : Refusal) → Rest call c (Refused refusal) (c .registers) (c .fifo) (c .bytes) (c .phase)
+  refuses : (refusal : Refusal) → Rest call c drives (Refused refusal) (c .registers) (c .fifo) (c .bytes) (c .phase)
   shows : (offset byte : ℕ) → call ≡ reads offset → (offset ≡ 5 → ⊥)
-      → Rest call c (Byte byte) (c .registers) (c .fifo) (c .bytes) (c .phase)
-  steps : (a b : List ℕ) → call ≡ ticks a b → Rest call c Done (c .registers) (c .fifo) (c .bytes) (c .phase)
-  flags : (drive : ℕ) → call ≡ notes drive → Rest call c Done (c .registers) (c .fifo) (c .bytes) (c .phase)
+      → Rest call c drives (Byte byte) (c .registers) (c .fifo) (c .bytes) (c .phase)
+  steps : (a b : List ℕ) → call ≡ ticks a b → Rest call c drives Done (c .registers) (c .fifo) (c .bytes) (c .phase)
+  flags : (drive : ℕ) → call ≡ notes drive → Rest call c drives Done (c .registers) (c .fifo) (c .bytes) (c .phase)
   -- registers
   sets : (offset byte : ℕ) → call ≡ writes offset byte → (offset ≡ 5 → ⊥) → (n : Registers)
-      → SameSettings (c .registers) n → Rest call c Done n (c .fifo) (c .bytes) (c .phase)
+      → SameSettings (c .registers) n → Rest call c drives Done n (c .fifo) (c .bytes) (c .phase)
   anew : Restarts call → (reply : Reply) (n : Registers) → n .efifo ≡ true → n .fifothr ≡ 0
-      → (n .spec1 ≡ 0) ⊎ (n .spec1 ≡ c .registers .spec1) → Rest call c reply n emptied noBytes Idle
+      → (n .spec1 ≡ 0) ⊎ (n .spec1 ≡ c .registers .spec1) → ((k : ℕ) → k < 4 → driveAt k drives .motion ≡ Still)
+      → Rest call c drives reply n emptied noBytes Idle
   -- a byte of a transfer
   took : (tc : Bool) → Takes call tc → (work : Work) → c .phase ≡ Working work → toHost (flowOf work) ≡ true
       → c .fifo .asks ≡ true
-      → Rest call c (Byte (frontOf (c .fifo))) (c .registers) (takenOf tc (c .fifo)) (c .bytes) (c .phase)
+      → Rest call c drives (Byte (frontOf (c .fifo))) (c .registers) (takenOf tc (c .fifo)) (c .bytes) (c .phase)
   gave : (byte : ℕ) (tc : Bool) → Gives call byte tc → (work : Work) → c .phase ≡ Working work
       → fromHost (flowOf work) ≡ true → c .fifo .asks ≡ true
-      → Rest call c Done (c .registers) (givenOf (c .registers .efifo) (tc && phaseHears (c .phase)) byte (c .fifo))
+      → Rest call c drives Done (c .registers) (givenOf (c .registers .efifo) (tc && phaseHears (c .phase)) byte (c .fifo))
       (c .bytes) (c .phase)
   -- a command byte of several
   gathers : (b : Bytes) (t : Told call c (b .command)) → b .gathered < t .entry .bytes
       → (c .bytes .left ≤ 7 → b .left ≤ 7) → (length (c .bytes .results) ≡ 7 → length (b .results) ≡ 7)
-      → Rest call c Done (c .registers) (c .fifo) b (Gathering (t .entry))
+      → Rest call c drives Done (c .registers) (c .fifo) b (Gathering (t .entry))
   -- bytes to be taken, none of a data command; or nothing more
   says : engaged (c .phase) ≡ false → heldIn (c .registers .dor) ≡ false → (reply : Reply) (results : List ℕ) (left : ℕ)
       → 1 ≤ left → (c .bytes .left ≤ 7 → left ≤ 7) → (length (c .bytes .results) ≡ 7 → length results ≡ 7)
-      → Rest call c reply (c .registers) (c .fifo) (waiting results left) (Answering false)
+      → Rest call c drives reply (c .registers) (c .fifo) (waiting results left) (Answering false)
   idles : engaged (c .phase) ≡ false → heldIn (c .registers .dor) ≡ false → (reply : Reply)
-      → Rest call c reply (c .registers) (c .fifo) noBytes Idle
+      → Rest call c drives reply (c .registers) (c .fifo) noBytes Idle
   -- 01 Commands (house): these are carried out only while no busy bit is on
   specifies : (command : List ℕ) → Told call c command → anyBusy (c .drives) ≡ false → (second : ℕ)
-      → Rest call c Done (specifiedOf (c .registers) (getD command 1 0) second) (c .fifo) noBytes Idle
+      → Rest call c drives Done (specifiedOf (c .registers) (getD command 1 0) second) (c .fifo) noBytes Idle
   configures : (command : List ℕ) → Told call c command → anyBusy (c .drives) ≡ false → (byte track : ℕ)
-      → Rest call c Done (configuredOf (c .registers) byte track) (c .fifo) noBytes Idle
+      → Rest call c drives Done (configuredOf (c .registers) byte track) (c .fifo) noBytes Idle
   senses : (command : List ℕ) → Told call c command → anyBusy (c .drives) ≡ false → (unit : ℕ)
-      → Rest call c Done (c .registers) (c .fifo) noBytes (Sensing unit)
+      → Rest call c drives Done (c .registers) (c .fifo) noBytes (Sensing unit)
   starts : (command : List ℕ) → Told call c command → anyBusy (c .drives) ≡ false → (order : Order)
-      → Orders command order → Rest call c Done (c .registers) (c .fifo) noBytes (Starting order)
+      → Orders command order → Rest call c drives Done (c .registers) (c .fifo) noBytes (Starting order)
   -- a tick of a command at work
   acts : (a b : List ℕ) → call ≡ ticks a b → heldIn (c .registers .dor) ≡ false → (s : Step) → Acts a b c s
-      → Rest call c Done (c .registers) (s .fifo) (bytesThen (s .then) (c .bytes)) (phaseThen (s .then))
+      → Rest call c drives Done (c .registers) (s .fifo) (bytesThen (s .then) (c .bytes)) (phaseThen (s .then))
 
 pub record Ruled (call : Call) (c : Controller) (a : Answer) : Type 0 where
   pub rest :
-      Rest call c (a .reply) (a .controller .registers) (a .controller .fifo) (a .controller .bytes) (a .controller .phase)
+      Rest call c (a .controller .drives) (a .reply) (a .controller .registers) (a .controller .fifo) (a .controller .bytes)
+      (a .controller .phase)
   pub drives : (k : ℕ) → k < 4 → DriveRule call c (a .controller .phase) k (driveAt k (a .controller .drives))
   pub long : length (c .drives) ≡ 4 → length (a .controller .drives) ≡ 4
