@@ -7,7 +7,7 @@ use mathlib.Core.List.{List, [], _∷_}
 use mathlib.Core.Logic.{_↔_}
 use mathlib.Core.Path.{_≡_, refl, sym, _∙_, ap}
 use lib.Dec.{eqb}
-use lib.ListN.{length, getD, set}
+use lib.ListN.{length, getD, set, replicate}
 use lib.Seq.{getD-set-same, getD-set-other}
 use borrow.Author.Tests.{eq-eqb, eqb-true, lt-ltb, le-ltb}
 use Rattle.chip.specs.declared.codes.Entry.{Entry}
@@ -32,9 +32,11 @@ use Rattle.fdc.specs.Commands.{answeredOf, saidOf, saidTwo, idledOf, specifyOf,
 use Rattle.fdc.specs.Commands.{soughtOf, recalibratedOf, moveOrder, formatOrder, identifyOrder, startedOf, ranOf, heedsOf}
 use Rattle.fdc.specs.Commands.{commandByte, ticksOf, runOf, gatheredOf, goesOn, begunOf}
 use Rattle.fdc.specs.Data.{offeredOf, writeFifo}
-use Rattle.fdc.specs.Record.{driveAt, validOf, withRegisters, withBytes, withDrives, withDrive, withPhase}
+use Rattle.fdc.specs.Record.{padded, noBytes, driveAt, validOf, withRegisters, withFifo, withBytes, withDrives}
+use Rattle.fdc.specs.Record.{withDrive, withPhase}
 use Rattle.fdc.specs.Registers.{anyBusy, dmaIn, phaseStatus, msrOf}
 use Rattle.reached.specs.Runs.{writes, answerTo, after, runCalls}
+use Rattle.fdc.proofs.BeginLaws.{one-more-below}
 use Rattle.fdc.proofs.ValidLaws.{valid-true, true-valid}
 use Rattle.demands.proofs.QuietLaws.{quiet-real}
 use Rattle.answers.specs.Accepts.{Ready, afterBytes, Begun, Moves, readCode, writeCode, Accepts, Refuses, BusyRule}
@@ -42,7 +44,7 @@ use Rattle.answers.specs.Accepts.{Specified, Configured, Settings, Waits
 use Rattle.answers.specs.CommandResults.{NoneBusy}
 use Rattle.answers.specs.ReadsOut.{SameElse}
 use Rattle.answers.specs.Registers.{Free}
-use Rattle.answers.proofs.CommandLaws.{none-gathered, none-busy, one-busy}
+use Rattle.answers.proofs.CommandLaws.{none-gathered, none-held, none-busy, one-busy}
 use Rattle.answers.proofs.FitLaws.{fit-real}
 use Rattle.answers.proofs.RefusalLaws.{busy-le}
 use Rattle.answers.proofs.RegisterLaws.{undamaged-valid, real-undamaged, free-msr}
@@ -54,7 +56,7 @@ heldOf c p l n =
       registers = c .registers;
       drives = c .drives;
       fifo = c .fifo;
-      bytes = record { command = l; gathered = n; results = c .bytes .results; left = c .bytes .left };
+      bytes = record { command = l; gathered = n; results = padded []; left = 0 };
       phase = p;
     }
 
@@ -66,7 +68,7 @@ setAll l n (b ∷ bs) = setAll (set l n b) (n + 1) bs
 run-same : (kind : Kind) (c : Controller) (p : Phase) (l : List ℕ) (n : ℕ)
     → runOf kind (heldOf c p l n) ≡ runOf kind (heldOf c Idle l 0)
 unfolding runOf ranOf saidOf saidTwo answeredOf idledOf specifyOf configureOf sensingOf sensedOf soughtOf recalibratedOf
-    startedOf withRegisters withDrives withDrive withPhase
+    startedOf withRegisters withDrives withDrive withFifo withPhase
 run-same Unknown c p l n = refl
 run-same ReadData c p l n = refl
 run-same ReadDeleted c p l n = refl
@@ -99,7 +101,7 @@ held-valid c entry l n t h =
     valid-true _ (record {
       fifo = v .fifo;
       gathered = h;
-      left = v .left;
+      left = omega arith;
       head0 = v .head0;
       head1 = v .head1;
       head2 = v .head2;
@@ -132,12 +134,13 @@ module _ (c : Controller) (v : validOf c ≡ true) (f : Free c) (entry : Entry) 
   abbrev in-hand : List ℕ → ℕ → Controller
   in-hand l n = heldOf c (Gathering entry) l n
 
-  next-byte : (l : List ℕ) (n byte : ℕ) → n ≤ 9
+  next-byte : (l : List ℕ) (n byte : ℕ) → n < 9
       → after (writes 5 byte) (in-hand l n) ≡ goesOn entry (in-hand (set l n byte) (n + 1))
   unfolding offeredOf gatheredOf withBytes
   next-byte l n byte h =
-      let t = held-valid c entry l n v h in
+      let t = held-valid c entry l n v (omega arith) in
       offers (in-hand l n) t f byte (in-turn (in-hand l n) t f 0x90 (omega arith) (omega arith) refl)
+      ∙ ap (λ (m : ℕ). goesOn entry (in-hand (set l n byte) m)) (one-more-below n h)
 
   goes-more : (l : List ℕ) (n : ℕ) → n < entry .bytes → goesOn entry (in-hand l n) ≡ in-hand l n
   unfolding goesOn withPhase
@@ -173,19 +176,20 @@ module _ (c : Controller) (r : Ready c) where
       (ap (λ (p : Phase). phaseStatus p (dmaIn (c .registers .spec2)) (c .fifo .asks)) (r .idle)))
       ∙ ap (λ (p : Phase). offeredOf p code c) (r .idle)
 
-  first-held : (code : ℕ) → gatheredOf code c ≡ heldOf c (c .phase) (set (c .bytes .command) 0 code) 1
+  first-held : (code : ℕ)
+      → gatheredOf code (withBytes noBytes c) ≡ heldOf c (c .phase) (set (replicate 9 0) 0 code) 1
   unfolding gatheredOf withBytes
-  first-held code = rw (r .none)
+  first-held code = refl
 
   first-more : (code : ℕ) → 1 < bytesOf (kindOf code)
-      → after (writes 5 code) c ≡ heldOf c (Gathering (entryOf code)) (set (c .bytes .command) 0 code) 1
+      → after (writes 5 code) c ≡ heldOf c (Gathering (entryOf code)) (set (replicate 9 0) 0 code) 1
   unfolding begunOf goesOn withPhase entryOf
   first-more code h =
       first-byte code ∙ ap (goesOn (entryOf code)) (first-held code)
       ∙ rw (lt-ltb 1 (bytesOf (kindOf code)) h)
 
   first-last : (code : ℕ) → 1 ≡ bytesOf (kindOf code)
-      → after (writes 5 code) c ≡ runOf (kindOf code) (heldOf c (c .phase) (set (c .bytes .command) 0 code) 1)
+      → after (writes 5 code) c ≡ runOf (kindOf code) (heldOf c (c .phase) (set (replicate 9 0) 0 code) 1)
   unfolding begunOf goesOn withPhase entryOf
   first-last code h =
       first-byte code ∙ ap (goesOn (entryOf code)) (first-held code)
@@ -193,7 +197,7 @@ module _ (c : Controller) (r : Ready c) where
 
   complete : (code : ℕ) (rest : List ℕ) → suc (length rest) ≡ bytesOf (kindOf code)
       → afterBytes (code ∷ rest) c
-      ≡ runOf (kindOf code) (heldOf c Idle (setAll (c .bytes .command) 0 (code ∷ rest)) 0)
+      ≡ runOf (kindOf code) (heldOf c Idle (setAll (replicate 9 0) 0 (code ∷ rest)) 0)
   unfolding runCalls entryOf
   complete code [] e = first-last code e ∙ run-same (kindOf code) c (c .phase) _ 1
   complete code (next ∷ rest) e =
@@ -202,7 +206,7 @@ module _ (c : Controller) (r : Ready c) where
 
   -- its record when it runs
   abbrev whole : List ℕ → Controller
-  whole bytes = heldOf c Idle (setAll (c .bytes .command) 0 bytes) 0
+  whole bytes = heldOf c Idle (setAll (replicate 9 0) 0 bytes) 0
 
   completes : (code : ℕ) (rest : List ℕ) (kind : Kind) → kindOf code ≡ kind → suc (length rest) ≡ bytesOf kind
       → afterBytes (code ∷ rest) c ≡ runOf kind (whole (code ∷ rest))
@@ -257,15 +261,15 @@ set-later (y ∷ bs) k n l h =
 
 -- the two bytes after the code
 second-byte : (c : Controller) (r : Ready c) (code byte : ℕ) (rest : List ℕ)
-    → getD (setAll (c .bytes .command) 0 (code ∷ byte ∷ rest)) 1 0 ≡ byte
+    → getD (setAll (replicate 9 0) 0 (code ∷ byte ∷ rest)) 1 0 ≡ byte
 second-byte c r code byte rest =
-    nine (c .bytes .command) (λ (l : List ℕ). getD (setAll l 0 (code ∷ byte ∷ rest)) 1 0 ≡ byte) (r .room)
+    nine (replicate 9 0) (λ (l : List ℕ). getD (setAll l 0 (code ∷ byte ∷ rest)) 1 0 ≡ byte) refl
     (λ x0 x1 x2 x3 x4 x5 x6 x7 x8. set-later rest 1 2 _ (omega arith))
 
 third-byte : (c : Controller) (r : Ready c) (code byte byte′ : ℕ) (rest : List ℕ)
-    → getD (setAll (c .bytes .command) 0 (code ∷ byte ∷ byte′ ∷ rest)) 2 0 ≡ byte′
+    → getD (setAll (replicate 9 0) 0 (code ∷ byte ∷ byte′ ∷ rest)) 2 0 ≡ byte′
 third-byte c r code byte byte′ rest =
-    nine (c .bytes .command) (λ (l : List ℕ). getD (setAll l 0 (code ∷ byte ∷ byte′ ∷ rest)) 2 0 ≡ byte′) (r .room)
+    nine (replicate 9 0) (λ (l : List ℕ). getD (setAll l 0 (code ∷ byte ∷ byte′ ∷ rest)) 2 0 ≡ byte′) refl
     (λ x0 x1 x2 x3 x4 x5 x6 x7 x8. set-later rest 2 3 _ (omega arith))
 
 bit-on : (part x byte : ℕ) → x ≡ byte → (eqb (x / part % 2) 1 ≡ true) ↔ (byte / part % 2 ≡ 1)
@@ -341,10 +345,10 @@ module _ (c : Controller) (r : Ready c) (n : NoneBusy c) where
       begins code rest kind _ k b
       (o (whole c r (code ∷ rest))
       ∙ ap (λ (x : Order). startedOf x (whole c r (code ∷ rest)))
-      (nine (c .bytes .command)
+      (nine (replicate 9 0)
       (λ (l : List ℕ). moveOrder (setAll l 0 (code ∷ rest)) pass deleted
       ≡ moveOf unit cc hh rr nn eot pass deleted mt sk)
-      (r .room)
+      refl
       (λ x0 x1 x2 x3 x4 x5 x6 x7 x8. λ i. moveOf unit cc hh rr nn eot pass deleted (m i) (s i))))
 
   formats : (unit nn sc gpl d : ℕ)
@@ -355,10 +359,10 @@ module _ (c : Controller) (r : Ready c) (n : NoneBusy c) where
       let rest = unit ∷ nn ∷ sc ∷ gpl ∷ d ∷ [] in
       begins 0x4D rest Format _ refl refl
       (ap (λ (x : Order). startedOf x (whole c r (0x4D ∷ rest)))
-      (nine (c .bytes .command)
+      (nine (replicate 9 0)
       (λ (l : List ℕ). formatOrder (setAll l 0 (0x4D ∷ rest))
       ≡ record { drive = unit % 4; side = unit / 4 % 2; job = job.Format (record { n = nn; sc = sc; fill = d }) })
-      (r .room) (λ x0 x1 x2 x3 x4 x5 x6 x7 x8. refl)))
+      refl (λ x0 x1 x2 x3 x4 x5 x6 x7 x8. refl)))
 
   identifies : (unit : ℕ)
       → Begun c (afterBytes (0x4A ∷ unit ∷ []) c)
@@ -367,10 +371,10 @@ module _ (c : Controller) (r : Ready c) (n : NoneBusy c) where
   identifies unit =
       begins 0x4A (unit ∷ []) ReadId _ refl refl
       (ap (λ (x : Order). startedOf x (whole c r (0x4A ∷ unit ∷ [])))
-      (nine (c .bytes .command)
+      (nine (replicate 9 0)
       (λ (l : List ℕ). identifyOrder (setAll l 0 (0x4A ∷ unit ∷ []))
       ≡ record { drive = unit % 4; side = unit / 4 % 2; job = Identify })
-      (r .room) (λ x0 x1 x2 x3 x4 x5 x6 x7 x8. refl)))
+      refl (λ x0 x1 x2 x3 x4 x5 x6 x7 x8. refl)))
 
   senses : (unit : ℕ)
       → (afterBytes (0x04 ∷ unit ∷ []) c .phase ≡ Sensing (unit % 8)) × SameElse c (afterBytes (0x04 ∷ unit ∷ []) c)
@@ -406,13 +410,13 @@ module _ (c : Controller) (r : Ready c) (n : NoneBusy c) where
       })
 
   configures : (gap byte track : ℕ) → Configured c (afterBytes (0x13 ∷ gap ∷ byte ∷ track ∷ []) c) byte track
-  unfolding kindOf ranOf configureOf withRegisters idledOf
+  unfolding kindOf ranOf configureOf withRegisters withFifo idledOf
   configures gap byte track =
-      let second : getD (setAll (c .bytes .command) 0 (0x13 ∷ gap ∷ byte ∷ track ∷ [])) 2 0
+      let second : getD (setAll (replicate 9 0) 0 (0x13 ∷ gap ∷ byte ∷ track ∷ [])) 2 0
       ≡ byte =
-      nine (c .bytes .command)
+      nine (replicate 9 0)
       (λ (l : List ℕ). getD (setAll l 0 (0x13 ∷ gap ∷ byte ∷ track ∷ [])) 2 0 ≡ byte)
-      (r .room) (λ x0 x1 x2 x3 x4 x5 x6 x7 x8. refl) in
+      refl (λ x0 x1 x2 x3 x4 x5 x6 x7 x8. refl) in
       rw (
       completes c r 0x13 (gap ∷ byte ∷ track ∷ []) Configure refl refl
       ∙ run-free Configure _ (none-busy (c .drives) n)
@@ -421,7 +425,7 @@ module _ (c : Controller) (r : Ready c) (n : NoneBusy c) where
           idle = refl;
           bytes = refl;
           drives = refl;
-          fifo = refl;
+          fifo = sym (r .empty);
           dor = refl;
           tdr = refl;
           rate = refl;
@@ -433,9 +437,9 @@ module _ (c : Controller) (r : Ready c) (n : NoneBusy c) where
         poll = bit-on 16 _ byte second;
         fifothr = ap (λ (x : ℕ). x % 16) second;
         pretrk =
-            nine (c .bytes .command)
+            nine (replicate 9 0)
             (λ (l : List ℕ). getD (setAll l 0 (0x13 ∷ gap ∷ byte ∷ track ∷ [])) 3 0 ≡ track)
-            (r .room) (λ x0 x1 x2 x3 x4 x5 x6 x7 x8. refl);
+            refl (λ x0 x1 x2 x3 x4 x5 x6 x7 x8. refl);
       })
 
 pub accepts : (c : Controller) → Accepts c
@@ -552,5 +556,6 @@ waits-ready c w = record {
   idle = w .idle;
   none = none-gathered c w;
   room = fit-real c (w .real) .room;
+  empty = none-held c w;
   four = quiet-real c (w .real) .good .drives .long;
 }

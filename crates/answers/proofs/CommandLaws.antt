@@ -8,11 +8,12 @@ use mathlib.Core.Path.{_≡_, refl, _∙_, ap}
 use lib.Dec.{eqb, ltb}
 use lib.ListN.{length}
 use lib.Seq.{getD-set-same}
-use borrow.Author.Tests.{eq-eqb, ne-eqb, le-ltb}
+use borrow.Author.Tests.{eq-eqb, ne-eqb}
 use Rattle.image.proofs.TestLaws.{by-test}
 use Rattle.chip.specs.declared.codes.Kind.{Kind}
 use Rattle.chip.specs.declared.codes.Kind.the-variants.{Unknown, SenseInterrupt, Version}
 use Rattle.chip.specs.Commands.{kindOf, bytesOf, entryOf}
+use Rattle.chip.specs.Fifo.{emptied}
 use Rattle.drive.specs.declared.Drive.{Drive}
 use Rattle.drive.specs.Drive.{sensedOf as sensedDrive}
 use Rattle.image.specs.Lent.{pickOf}
@@ -25,7 +26,7 @@ use Rattle.fdc.specs.Calls.{portOf, writeReg, writePort}
 use Rattle.fdc.specs.Commands.{answeredOf, saidOf, saidTwo, reporterOf, sensedOf, ranOf, runOf, gatheredOf, goesOn}
 use Rattle.fdc.specs.Commands.{begunOf}
 use Rattle.fdc.specs.Data.{offeredOf, writeFifo}
-use Rattle.fdc.specs.Record.{driveAt, withBytes, withDrive, withDrives}
+use Rattle.fdc.specs.Record.{noBytes, driveAt, withBytes, withDrive, withDrives}
 use Rattle.fdc.specs.Registers.{heldIn, anyBusy, dmaIn, reportAt, phaseStatus, msrOf}
 use Rattle.reached.specs.Runs.{writes, ticks, answerTo, after}
 use Rattle.fdc.specs.Ticks.{seenOf, protectedIn, steppedOf, st3Of, sensedAt, stillOf, decideIn, decideOf, ruledOf}
@@ -38,6 +39,10 @@ use Rattle.demands.proofs.CallLaws.{after-tick}
 use Rattle.demands.proofs.QuietLaws.{quiet-real}
 use Rattle.answers.proofs.RefusalLaws.{below, busy-le}
 use Rattle.answers.proofs.RegisterLaws.{real-valid, free-msr}
+
+-- the record without its command bytes
+abbrev cleared : Controller → Controller
+cleared c = withBytes noBytes c
 
 module _ (c : Controller) (w : Waits c) where
   good : Good c
@@ -59,14 +64,17 @@ module _ (c : Controller) (w : Waits c) where
   pub none-gathered : c .bytes .gathered ≡ 0
   none-gathered = (rw (w .idle) at (good .phase)) .0
 
+  pub none-held : c .fifo ≡ emptied
+  none-held = (rw (w .idle) at (good .phase)) .1
+
   -- a command of one byte is complete at once
   begun-one : (code : ℕ) (kind : Kind) → kindOf code ≡ kind → bytesOf kind ≡ 1
-      → begunOf code c ≡ runOf kind (gatheredOf code c)
+      → begunOf code c ≡ runOf kind (gatheredOf code (cleared c))
   unfolding begunOf goesOn entryOf gatheredOf withBytes
   begun-one code kind e b =
-      rw (e, b, le-ltb (c .bytes .gathered + 1) 1 (omega (arith, none-gathered)))
+      rw (e, b)
 
-  same-drives : (code : ℕ) → gatheredOf code c .drives ≡ c .drives
+  same-drives : (code : ℕ) → gatheredOf code (cleared c) .drives ≡ c .drives
   unfolding gatheredOf withBytes
   same-drives code = refl
 
@@ -165,19 +173,20 @@ module _ (c : Controller) (k : ℕ) (w : Waits c) (low : k < 4) (n : reportOf k 
     (f : (j : ℕ) → j < k → reportOf j c ≡ 0) where
   senses : after (writes 5 0x08) c
       ≡ saidTwo (driveAt k (c .drives) .report) (driveAt k (c .drives) .pcn)
-      (withDrive k (sensedDrive (driveAt k (c .drives))) (gatheredOf 0x08 c))
+      (withDrive k (sensedDrive (driveAt k (c .drives))) (gatheredOf 0x08 (cleared c)))
   unfolding gatheredOf withBytes kindOf
   senses =
-      after-code c w 0x08 ∙ begun-one c w 0x08 SenseInterrupt refl refl ∙ run-sense (gatheredOf 0x08 c)
-      ∙ sense-at (gatheredOf 0x08 c) k low (lowest-is (c .drives) k low n f)
+      after-code c w 0x08 ∙ begun-one c w 0x08 SenseInterrupt refl refl ∙ run-sense (gatheredOf 0x08 (cleared c))
+      ∙ sense-at (gatheredOf 0x08 (cleared c)) k low (lowest-is (c .drives) k low n f)
 
   senses-drive : driveAt k (after (writes 5 0x08) c .drives) ≡ sensedDrive (driveAt k (c .drives))
   unfolding gatheredOf withBytes
   senses-drive =
       ap (λ (x : Controller). driveAt k (x .drives)) senses
       ∙ ap (λ (l : List Drive). driveAt k l) (two-drives _ _ (withDrive k (sensedDrive (driveAt k (c .drives)))
-      (gatheredOf 0x08 c)))
-      ∙ with-drive (gatheredOf 0x08 c) k (sensedDrive (driveAt k (c .drives))) (omega (arith, good c w .drives .long))
+      (gatheredOf 0x08 (cleared c))))
+      ∙ with-drive (gatheredOf 0x08 (cleared c)) k (sensedDrive (driveAt k (c .drives)))
+      (omega (arith, good c w .drives .long))
 
 -- Sense Drive
 module _ (c : Controller) (unit : ℕ) (a b : List ℕ) (r : Real c) (e : c .phase ≡ Sensing unit) where
@@ -210,18 +219,19 @@ pub command-results : CommandResults
 unfolding kindOf
 command-results = record {
   unknown = λ c code w e.
-      rw (after-code c w code, begun-one c w code Unknown e refl, run-unknown (gatheredOf code c)) (said-one 0x80 _);
+      rw (after-code c w code, begun-one c w code Unknown e refl, run-unknown (gatheredOf code (cleared c)))
+      (said-one 0x80 _);
   version = λ c w n.
       rw (
         after-code c w 0x10,
         begun-one c w 0x10 Version refl refl,
-        run-version (gatheredOf 0x10 c) (ap anyBusy (same-drives c w 0x10) ∙ none-busy (c .drives) n),
+        run-version (gatheredOf 0x10 (cleared c)) (ap anyBusy (same-drives c w 0x10) ∙ none-busy (c .drives) n),
       ) (said-one 0x90 _);
   busy = λ c k w h b.
       rw (
         after-code c w 0x10,
         begun-one c w 0x10 Version refl refl,
-        run-busy (gatheredOf 0x10 c) (ap anyBusy (same-drives c w 0x10) ∙ one-busy (c .drives) k h b),
+        run-busy (gatheredOf 0x10 (cleared c)) (ap anyBusy (same-drives c w 0x10) ∙ one-busy (c .drives) k h b),
       ) (said-one 0x80 _);
   sensed = λ c k w h n f. rw (senses c k w h n f) (said-two _ _ _);
   taken = λ c k w h n f.
@@ -231,8 +241,8 @@ command-results = record {
       rw (
         after-code c w 0x08,
         begun-one c w 0x08 SenseInterrupt refl refl,
-        run-sense (gatheredOf 0x08 c),
-        sense-none (gatheredOf 0x08 c) (ap reporterOf (same-drives c w 0x08) ∙ none-is (c .drives) f),
+        run-sense (gatheredOf 0x08 (cleared c)),
+        sense-none (gatheredOf 0x08 (cleared c)) (ap reporterOf (same-drives c w 0x08) ∙ none-is (c .drives) f),
       ) (said-one 0x80 _);
   st3 = st3-said;
 }

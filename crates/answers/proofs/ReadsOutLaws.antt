@@ -85,7 +85,7 @@ answered-undamaged c l m u h =
     }))
 
 -- the bytes that a read leaves are those behind the first
-zeros-at : (n j : ℕ) → getD (replicate n 0) j 0 ≡ 0
+zeros-at : (n j : ℕ) → _≡_ {A = ℕ} (getD (replicate n 0) j 0) 0
 zeros-at zero j = refl
 zeros-at (suc n) zero = refl
 zeros-at (suc n) (suc j) = zeros-at n j

@@ -9,6 +9,7 @@ use mathlib.Core.Logic.{_↔_}
 use mathlib.Core.Path.{_≡_}
 use lib.ListN.{length}
 use Rattle.chip.specs.Commands.{kindOf, bytesOf}
+use Rattle.chip.specs.Fifo.{emptied}
 use Rattle.drive.specs.declared.Motion.{Motion}
 use Rattle.drive.specs.declared.Motion.the-variants.{Seeking, Recalibrating}
 use Rattle.drive.specs.Drive.{distance, firstWait, recalibrateSteps}
@@ -24,12 +25,14 @@ use Rattle.answers.specs.CommandResults.{Said, Waits, NoneBusy}
 use Rattle.answers.specs.ReadsOut.{SameElse}
 use Rattle.answers.specs.Registers.{Undamaged, Free}
 
--- it waits for a command; there is room for nine bytes, and there are four drives, as the arrays' types have it
+-- it waits for a command, with nothing in the FIFO; there is room for nine bytes, and there are four drives, as the
+-- arrays' types have it
 pub record Ready (c : Controller) : Type 0 where
   pub undamaged : Undamaged c
   pub free : Free c
   pub idle : c .phase ≡ Idle
   pub none : c .bytes .gathered ≡ 0
+  pub empty : c .fifo ≡ emptied
   pub room : length (c .bytes .command) ≡ 9
   pub four : length (c .drives) ≡ 4
 

@@ -36,13 +36,14 @@ use Rattle.fdc.specs.declared.ticks.Decision.{Decision}
 use Rattle.fdc.specs.Answer.{answerOf}
 use Rattle.fdc.specs.Calls.{dmaRead}
 use Rattle.fdc.specs.Commands.{answeredOf}
-use Rattle.fdc.specs.Data.{phaseToHost, dmaReadOf}
+use Rattle.fdc.specs.Data.{phaseToHost}
 use Rattle.reached.specs.Good.{Suits}
 use Rattle.reached.specs.Moves.{tickCount}
 use Rattle.fdc.specs.Record.{withFifo, withPhase}
 use Rattle.fdc.specs.Registers.{gateIn, dmaIn, motorIn, drqOf}
 use Rattle.reached.specs.Runs.{Call, takes, ticks, answerTo, after, runCalls}
 use Rattle.fdc.specs.Ticks.{settledOf, decidedOf, ruledOf}
+use Rattle.fdc.proofs.DmaLaws.{dma-read-is}
 use Rattle.reached.proofs.GoodLaws.{good-valid}
 use Rattle.demands.specs.DataError.{Spins}
 use Rattle.demands.specs.HandedOver.{Taken, untaken, tookOne, tookBy, takenBy, takenOver}
@@ -73,8 +74,8 @@ tick-registers a b c drive o e =
 -- 01 Registers DRQ, Refusals 3: a cycle with the line on, to the host, hands over a byte
 module _ (tc : Bool) (c : Controller) (q : Quiet c) (line : drqOf c ≡ true) (to : phaseToHost (c .phase) ≡ true) where
   takes-answer : answerTo (takes tc) c ≡ answerOf (Byte (frontOf (c .fifo))) (withFifo (takenOf tc (c .fifo)) c)
-  unfolding answerTo dmaRead dmaReadOf
-  takes-answer = rw (good-valid c (q .good), line, to)
+  unfolding answerTo dmaRead
+  takes-answer = rw (good-valid c (q .good), dma-read-is tc c, line, to)
 
   takes-record : after (takes tc) c ≡ withFifo (takenOf tc (c .fifo)) c
   unfolding answerOf

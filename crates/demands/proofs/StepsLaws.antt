@@ -25,6 +25,7 @@ use Rattle.fdc.specs.Data.{offeredOf, writeFifo}
 use Rattle.fdc.specs.Record.{driveAt, withBytes, withDrives, withDrive}
 use Rattle.fdc.specs.Registers.{heldIn, bit, busyBits, anyBusy, msrOf}
 use Rattle.reached.specs.Runs.{Call, writes, answerTo, after, runCalls, Reached}
+use Rattle.fdc.proofs.BeginLaws.{one-more-below}
 use Rattle.reached.proofs.GoodLaws.{good-valid}
 use Rattle.reached.proofs.SeekLaws.{seek-on-time, recalibrate-on-time}
 use Rattle.demands.specs.EndsInTime.{Completes, byteNo, SeeksOnTime, RecalibratesOnTime}
@@ -74,9 +75,10 @@ goes-run : (kind : Kind) (c : Controller) (entry : Entry) → ltb (c .bytes .gat
 unfolding goesOn
 goes-run kind c entry l e h = rw (l, e) (run-heeds kind c h)
 
-gathered-more : (byte : ℕ) (c : Controller) → gatheredOf byte c .bytes .gathered ≡ c .bytes .gathered + 1
+gathered-more : (byte : ℕ) (c : Controller) → c .bytes .gathered < 9
+    → gatheredOf byte c .bytes .gathered ≡ c .bytes .gathered + 1
 unfolding gatheredOf withBytes
-gathered-more byte c = refl
+gathered-more byte c h = one-more-below (c .bytes .gathered) h
 
 module _ (kind : Kind) (byte : ℕ) (c : Controller) (done : Completes kind byte c) where
   quiet : Quiet c
@@ -112,9 +114,12 @@ module _ (kind : Kind) (byte : ℕ) (c : Controller) (done : Completes kind byte
       ap (λ (x : Answer). x .controller) written
       ∙ goes-run kind (gatheredOf byte c) (done .entry) complete (done .kind-is) h
     where
+      below : c .bytes .gathered < 9
+      below = let s = rw (done .gathers) at (quiet .good .phase) in omega (arith, s .1, done .last)
+
       complete : ltb (gatheredOf byte c .bytes .gathered) (done .entry .bytes) ≡ false
       complete = le-ltb (gatheredOf byte c .bytes .gathered) (done .entry .bytes)
-          (omega (arith, gathered-more byte c, done .last))
+          (omega (arith, gathered-more byte c below, done .last))
 
 module _ (byte : ℕ) (c : Controller) where
   -- the record that a Seek or a Recalibrate leaves, its drive's motion begun

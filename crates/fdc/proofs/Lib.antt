@@ -1,4 +1,5 @@
 pub mod AnswerLaws
+pub mod BeginLaws
 pub mod DmaLaws
 pub mod Open
 pub mod PadLaws

@@ -24,6 +24,7 @@ use Rattle.chip.specs.declared.codes.Kind.the-variants.{
   Configure,
 }
 use Rattle.chip.specs.Commands.{entryOf, mtOf, skOf}
+use Rattle.chip.specs.Fifo.{emptied}
 use Rattle.chip.specs.Stepping.{stepTicks}
 use Rattle.drive.specs.declared.Drive.{Drive}
 use Rattle.drive.specs.Drive.{seekOf, recalibrateOf}
@@ -36,7 +37,7 @@ use Rattle.sectors.specs.declared.order.Job.the-variants as job
 use Rattle.fdc.specs.declared.record.Registers.{Registers}
 use Rattle.fdc.specs.declared.record.Phase.the-variants.{Idle, Gathering, Starting, Sensing, Answering}
 use Rattle.fdc.specs.declared.record.Controller.{Controller}
-use Rattle.fdc.specs.Record.{padded, noBytes, driveAt, withRegisters, withBytes, withPhase, withDrive}
+use Rattle.fdc.specs.Record.{padded, noBytes, driveAt, withRegisters, withFifo, withBytes, withPhase, withDrive}
 use Rattle.fdc.specs.Registers.{anyBusy, reportAt}
 
 -- results wait; the command bytes have done their work
@@ -83,7 +84,8 @@ specifiedOf r first second =
 unfoldable pub specifyOf : Controller → Controller
 specifyOf c = idledOf (withRegisters (specifiedOf (c .registers) (commandByte 1 c) (commandByte 2 c)) c)
 
--- 01 Commands Configure: 00; EIS 40, EFIFO 20, POLL 10, FIFOTHR; PRETRK
+-- 01 Commands Configure: 00; EIS 40, EFIFO 20, POLL 10, FIFOTHR; PRETRK. The FIFO is emptied, so that no count is
+-- above a new capacity (D-37)
 abbrev pub configuredOf : Registers → ℕ → ℕ → Registers
 configuredOf r byte track =
     record {
@@ -100,7 +102,8 @@ configuredOf r byte track =
     }
 
 unfoldable pub configureOf : Controller → Controller
-configureOf c = idledOf (withRegisters (configuredOf (c .registers) (commandByte 2 c) (commandByte 3 c)) c)
+configureOf c =
+    idledOf (withFifo emptied (withRegisters (configuredOf (c .registers) (commandByte 2 c) (commandByte 3 c)) c))
 
 -- 01 Commands Sense Drive: ST3 at the next tick; side and drive are three bits
 unfoldable pub sensingOf : Controller → Controller
@@ -211,13 +214,17 @@ heedsOf Configure = false
 unfoldable pub runOf : Kind → Controller → Controller
 runOf kind c = cond (anyBusy (c .drives) && not (heedsOf kind)) (saidOf 0x80 c) (ranOf kind c)
 
--- one command byte more
+-- at most nine command bytes (01 Refusals 4)
+abbrev pub oneMore : ℕ → ℕ
+oneMore n = cond (ltb n 9) (n + 1) 9
+
+-- one command byte more; past the ninth it is put nowhere (D-37)
 unfoldable pub gatheredOf : ℕ → Controller → Controller
 gatheredOf byte c =
     withBytes
     (record {
       command = set (c .bytes .command) (c .bytes .gathered) byte;
-      gathered = c .bytes .gathered + 1;
+      gathered = oneMore (c .bytes .gathered);
       results = c .bytes .results;
       left = c .bytes .left;
     })
@@ -228,5 +235,6 @@ unfoldable pub goesOn : Entry → Controller → Controller
 goesOn entry c =
     cond (ltb (c .bytes .gathered) (entry .bytes)) (withPhase (Gathering entry) c) (runOf (entry .kind) c)
 
+-- the first byte is byte 0, whatever was held (D-36)
 unfoldable pub begunOf : ℕ → Controller → Controller
-begunOf byte c = goesOn (entryOf byte) (gatheredOf byte c)
+begunOf byte c = goesOn (entryOf byte) (gatheredOf byte (withBytes noBytes c))

@@ -11,6 +11,7 @@ use chip::codes::Kind;
 use chip::codes::entry_at;
 use chip::codes::mt_of;
 use chip::codes::sk_of;
+use chip::fifo::Fifo;
 use chip::step::step_ticks;
 use drive::Drive;
 use image::slot::Id;
@@ -20,7 +21,6 @@ use sectors::order::Pass;
 use sectors::order::Plan;
 use sectors::order::Transfer;
 ghost use mathlib.Core.Path.{_≡_};
-ghost use Prim.Native.Nat.{_≤_};
 ghost use lib.ListN.{set};
 ghost use Rattle.fdc.specs.Commands.{
   answeredOf,
@@ -44,6 +44,7 @@ ghost use Rattle.fdc.specs.Commands.{
   heedsOf,
   ranOf,
   runOf,
+  oneMore,
   gatheredOf,
   goesOn,
   begunOf,
@@ -59,6 +60,13 @@ fn put(command: [u8; 9], at: usize, byte: u8) -> [u8; 9]
         return c;
     }
     command
+}
+
+// At most nine.
+fn one_more(gathered: u8) -> u8
+    ensures { λ r. ⌜ r ≡ oneMore gathered ⌝ }
+{
+    if gathered < 9 { gathered + 1 } else { 9 }
 }
 
 // Specify's two bytes.
@@ -258,7 +266,9 @@ impl Controller {
     {
         let bytes = self.bytes;
         let registers = configured(self.registers, bytes.command[2], bytes.command[3]);
-        self.with_registers(registers).idled()
+        self.with_registers(registers)
+            .with_fifo(Fifo::empty())
+            .idled()
     }
 
     fn sense_drive(self) -> Controller
@@ -369,8 +379,8 @@ impl Controller {
         self.carry_out(kind)
     }
 
-    pub(crate) fn gathered(self, byte: u8) -> Controller
-        requires { ⌜ self .bytes .gathered ≤ 9 ⌝ }
+    // One command byte more; past the ninth it is put nowhere.
+    pub fn gathered(self, byte: u8) -> Controller
         ensures { λ r. ⌜ r ≡ gatheredOf byte self ⌝ }
     {
         let old = self.bytes;
@@ -378,7 +388,7 @@ impl Controller {
         let results = old.results;
         let bytes = Bytes {
             command: put(before, old.gathered as usize, byte),
-            gathered: old.gathered + 1,
+            gathered: one_more(old.gathered),
             results,
             left: old.left,
         };
@@ -397,11 +407,12 @@ impl Controller {
         self.run(kind)
     }
 
-    // The first byte of a command.
-    pub(crate) fn begin(self, byte: u8) -> Controller
-        requires { ⌜ self .bytes .gathered ≤ 9 ⌝ }
+    // The first byte of a command, whatever was held.
+    pub fn begin(self, byte: u8) -> Controller
         ensures { λ r. ⌜ r ≡ begunOf byte self ⌝ }
     {
-        self.gathered(byte).go_on(entry_at(byte))
+        self.with_bytes(Bytes::none())
+            .gathered(byte)
+            .go_on(entry_at(byte))
     }
 }

@@ -11,7 +11,7 @@ use chip::refusal::Refusal;
 use engine::flow::Flow;
 use engine::flow::hears_tc;
 ghost use mathlib.Core.Path.{_≡_};
-ghost use Prim.Native.Nat.{_-_, _≤_};
+ghost use Prim.Native.Nat.{_-_};
 ghost use Rattle.engine.specs.Step.{toHost, fromHost};
 ghost use Rattle.fdc.specs.Data.{
   shifted,
@@ -121,7 +121,6 @@ impl Controller {
     }
 
     fn offer(self, phase: Phase, byte: u8) -> Controller
-        requires { ⌜ self .bytes .gathered ≤ 9 ⌝ }
         ensures { λ r. ⌜ r ≡ offeredOf phase byte self ⌝ }
     {
         match phase {
@@ -135,8 +134,7 @@ impl Controller {
     }
 
     // RQM is 1 and DIO 0.
-    pub(crate) fn write_fifo(self, byte: u8) -> Answer
-        requires { ⌜ self .bytes .gathered ≤ 9 ⌝ }
+    pub fn write_fifo(self, byte: u8) -> Answer
         ensures { λ r. ⌜ r ≡ writeFifo byte self ⌝ }
     {
         let turn = self.msr() / 64 == 2;

@@ -4,7 +4,6 @@ use crate::answer::Reply;
 use crate::record::Controller;
 use chip::refusal::Refusal;
 ghost use mathlib.Core.Path.{_≡_};
-ghost use Prim.Native.Nat.{_≤_};
 ghost use Rattle.fdc.specs.Calls.{portOf, readReg, writeReg};
 
 pub enum Port {
@@ -43,8 +42,7 @@ impl Controller {
         }
     }
 
-    pub(crate) fn write_register(self, port: Port, byte: u8) -> Answer
-        requires { ⌜ self .bytes .gathered ≤ 9 ⌝ }
+    pub fn write_register(self, port: Port, byte: u8) -> Answer
         ensures { λ r. ⌜ r ≡ writeReg port byte self ⌝ }
     {
         match port {

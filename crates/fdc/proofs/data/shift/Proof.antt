@@ -14,10 +14,10 @@ shift-spec =
     (tie.spec
     (λ c. search needs) (λ c. search needs) (λ c. search needs)
     (λ c κs.
-      let bytes = c .before .before .args .t1 in
-      let h : length bytes ≡ resultRoom = search needs in
-      rest-fits bytes h)
+    let bytes = c .before .before .args .t1 in
+    let h : length bytes ≡ resultRoom = search needs in
+    rest-fits bytes h)
     (λ c.
-      let bytes = c .before .before .before .args .t1 in
-      let h : length bytes ≡ resultRoom = search needs in
-      c .pad .ensures ∙ rest-is bytes h))
+    let bytes = c .before .before .before .args .t1 in
+    let h : length bytes ≡ resultRoom = search needs in
+    c .pad .ensures ∙ rest-is bytes h))

@@ -26,7 +26,7 @@ pad-spec =
     μ-loop
     (λ c. search needs) (λ c. search needs) (λ c. search needs) (λ c. search needs) (λ c. search needs)
     (λ c.
-      let at-loop = c .before .before in
-      let h : at-loop .loop .k < length (at-loop .before .args .bytes .now) = search needs in
-      (one-more _ _ _ h (search needs) (at-loop .loop .inv .0), omega arith))
+    let at-loop = c .before .before in
+    let h : at-loop .loop .k < length (at-loop .before .args .bytes .now) = search needs in
+    (one-more _ _ _ h (search needs) (at-loop .loop .inv .0), omega arith))
     (λ c. all-in _ _ _ (c .before .loop .inv) (c .loop-test .left)))

@@ -10,5 +10,12 @@ unfolding begunOf
 begin-spec =
     tie.close
     (tie.spec
-    (λ c κs. search needs) (λ c κs. search needs) (λ c κs. search needs)
-    (λ c. rw (← c .before .before .gathered .ensures, ← c .before .entry-at .ensures) (c .go-on .ensures)))
+    (λ c κs. search needs) (λ c κs. search needs) (λ c κs. search needs) (λ c κs. search needs)
+    (λ c κs. search needs)
+    (λ c. rw (
+      c .go-on .ensures,
+      c .before .entry-at .ensures,
+      c .before .before .gathered .ensures,
+      c .before .before .before .with-bytes .ensures,
+      c .before .before .before .before .none .ensures,
+    )))

@@ -11,4 +11,11 @@ configure-spec =
     tie.close
     (tie.spec
     (λ c. search needs) (λ c. search needs) (λ c κs. search needs) (λ c κs. search needs) (λ c κs. search needs)
-    (λ c. rw (← c .before .before .configured .ensures, ← c .before .with-registers .ensures) (c .idled .ensures)))
+    (λ c κs. search needs) (λ c κs. search needs)
+    (λ c. rw (
+      c .idled .ensures,
+      c .before .with-fifo .ensures,
+      c .before .before .empty .ensures,
+      c .before .before .before .with-registers .ensures,
+      c .before .before .before .before .configured .ensures,
+    )))

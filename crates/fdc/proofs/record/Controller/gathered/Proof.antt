@@ -10,5 +10,9 @@ unfolding gatheredOf
 gathered-spec =
     tie.close
     (tie.spec
-    (λ c. search needs) (λ c κs. search needs) (λ c. search needs) (λ c κs. search needs)
-    (λ c. rw (c .with-bytes .ensures, c .before .before .put .ensures)))
+    (λ c. search needs) (λ c κs. search needs) (λ c κs. search needs) (λ c κs. search needs)
+    (λ c. rw (
+      c .with-bytes .ensures,
+      c .before .one-more .ensures,
+      c .before .before .put .ensures,
+    )))

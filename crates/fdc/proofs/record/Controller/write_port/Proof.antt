@@ -1,7 +1,5 @@
 -- `fdc::record::Controller::write_port` meets its contract.
 -- Assumes nothing.
-use Rattle.fdc.proofs.ValidLaws.{true-valid}
-use mathlib.Core.Path.{sym, _∙_}
 use Rattle.fdc.specs.Calls.{writePort}
 use borrow.Author.Needs.{needs}
 use Rattle.fdc.proofs.record.Controller.write_port.Statement.{statement}
@@ -12,8 +10,7 @@ unfolding writePort
 write-port-spec =
     tie.close
     (tie.spec
-    (λ c κs. search needs) (λ c κs. search needs)
-    (λ c κs. true-valid _ (sym (c .before .before .valid .ensures) ∙ c .before .if1 .taken) .gathered)
+    (λ c κs. search needs) (λ c κs. search needs) (λ c κs. search needs)
     (λ c. rw (
       ← c .before .before .before .valid .ensures,
       c .before .before .if1 .taken,
