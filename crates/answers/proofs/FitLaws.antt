@@ -8,7 +8,7 @@ use mathlib.Core.List.{List, [], _∷_, _++_}
 use mathlib.Core.Logic.{inr}
 use mathlib.Core.Path.{_≡_, refl, sym, _∙_, ap}
 use lib.Dec.{leb}
-use lib.ListN.{length, length-set}
+use lib.ListN.{length}
 use Rattle.image.proofs.TestLaws.{by-test}
 use Rattle.image.specs.Lent.{pickOf}
 use Rattle.chip.specs.declared.fifo.Fifo.{Fifo}
@@ -51,7 +51,7 @@ use Rattle.fdc.specs.Record.{freshOf}
 use Rattle.fdc.specs.Registers.{motorIn}
 use Rattle.fdc.specs.Ticks.{seenOf}
 use Rattle.reached.specs.Runs.{Call, after, runCalls}
-use Rattle.reached.proofs.RuleLaws.{rule-of}
+use Rattle.reached.proofs.RuleLaws.{told-room, rule-of}
 use Rattle.reached.proofs.Rules.{Acts, begins, goes-on, bytesThen, phaseThen, Rest, refuses, shows, steps, flags, sets, anew, took, gave, gathers, says, idles, specifies, configures, senses, starts, acts}
 use Rattle.answers.specs.OnlyWrites.{suitedIn}
 use Rattle.demands.specs.Work.{OfBytes, AllOfBytes, Real}
@@ -214,8 +214,8 @@ module _ (call : Call) (c : Controller) (q : Quiet c) (z : Fit c) where
   fits ds reply r f b p (anew x reply′ n e t s still) = record { room = refl; phase = tt; left = tt }
   fits ds reply r f b p (took tc x work e h asks) = same
   fits ds reply r f b p (gave byte tc x work e h asks) = same
-  fits ds reply r f b p (gathers b′ t l m k) = record {
-    room = rw (t .bytes) (length-set (c .bytes .command) (c .bytes .gathered) (t .byte) ∙ z .room);
+  fits ds reply r f b p (gathers b′ t l o m k) = record {
+    room = told-room call c _ t (z .room);
     phase = tt;
     left = tt;
   }

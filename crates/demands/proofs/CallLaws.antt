@@ -199,7 +199,7 @@ module _ (call : Call) (c : Controller) (w : atWork (c .phase) ≡ true) where
         on ep (rw er) (rw er) (took tc (takes-may call c tc x) (ap phaseToHost q ∙ h) ef (takes-unheard call c tc x))
     way ds reply r f b p y er ef ep (gave-byte byte tc x work q h asks) =
         on ep (rw er) (rw er) (gave byte tc (ap phaseFromHost q ∙ h) asks ef (gives-heard call c byte tc x y))
-    way ds reply r f b p y er ef ep (gathers b′ t l m k) = told-elsewhere _ t
+    way ds reply r f b p y er ef ep (gathers b′ t l o m k) = told-elsewhere _ t
     way ds reply r f b p y er ef ep (says h free reply′ results left l m k) = elsewhere h
     way ds reply r f b p y er ef ep (idles h free reply′) = elsewhere h
     way ds reply r f b p y er ef ep (specifies command t h second) = told-elsewhere command t
@@ -261,7 +261,7 @@ module _ (call : Call) (c : Controller) (w : atWork (c .phase) ≡ true) where
     taken-way ds reply r f b p y ef (took-byte tc x work q h asks) =
         one-taken tc (ap phaseToHost q ∙ h) asks ef (taken-one tc x _ y)
     taken-way ds reply r f b p y ef (gave-byte byte tc x work q h asks) = gives-none byte tc x
-    taken-way ds reply r f b p y ef (gathers b′ t l n k) = told-elsewhere _ t
+    taken-way ds reply r f b p y ef (gathers b′ t l o n k) = told-elsewhere _ t
     taken-way ds reply r f b p y ef (says h free reply′ results left l n k) = elsewhere h
     taken-way ds reply r f b p y ef (idles h free reply′) = elsewhere h
     taken-way ds reply r f b p y ef (specifies command t h second) = told-elsewhere command t

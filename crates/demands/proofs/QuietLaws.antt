@@ -31,7 +31,7 @@ use Rattle.fdc.specs.declared.record.Registers.{Registers}
 use Rattle.fdc.specs.Answer.{answerOf}
 use Rattle.fdc.specs.Calls.{portOf, writeReg, powerOn, writePort}
 use Rattle.fdc.specs.Commands.{moveOrder, formatOrder, identifyOrder}
-use Rattle.fdc.specs.Record.{freshOf, driveAt, withRegisters}
+use Rattle.fdc.specs.Record.{noBytes, freshOf, driveAt, withRegisters}
 use Rattle.fdc.specs.Registers.{heldIn, anyBusy}
 use Rattle.fdc.specs.Reset.{resetAll, resetOf, withDor, wroteDor}
 use Rattle.fdc.specs.Ticks.{steppedOf}
@@ -191,9 +191,13 @@ module _ (call : Call) (c : Controller) (drives : List Drive) (bytewise : Bytewi
   told-bytes : (command : List ℕ) → Told call c command → AllBytes command
   told-bytes command t =
       rw (t .bytes)
-      (bytes-set (c .bytes .command) (c .bytes .gathered) (t .byte)
+      (bytes-set (t .from .command) (t .from .gathered) (t .byte)
       (bytewise (t .byte) (t .it) (at-work (c .phase) ∙ collects-unengaged c (t .byte) (t .entry) (t .by)))
-      (q .inner .command))
+      (from-bytes (t .whence)))
+    where
+      from-bytes : (t .from ≡ c .bytes) ⊎ (t .from ≡ noBytes) → AllBytes (t .from .command)
+      from-bytes (inl e) = rw e (q .inner .command)
+      from-bytes (inr e) = rw e (bytes-zeros 9)
 
   -- not held, and no command at work after it
   resting : (r : Registers) (b : Bytes) (p : Phase) → heldIn (r .dor) ≡ false → atWork p ≡ false → Proper p
@@ -247,7 +251,7 @@ module _ (call : Call) (c : Controller) (drives : List Drive) (bytewise : Bytewi
       byte (inr e) = rw e (q .inner .spec1)
   calms reply r f b p (took tc x work e h asks) = same
   calms reply r f b p (gave byte tc x work e h asks) = same
-  calms reply r f b p (gathers b′ t l m k) =
+  calms reply r f b p (gathers b′ t l o m k) =
       resting _ _ _ (t .free) refl tt (told-bytes _ t) (q .inner .spec1)
   calms reply r f b p (says h free reply′ results left l m k) =
       resting _ _ _ free refl tt (bytes-zeros 9) (q .inner .spec1)

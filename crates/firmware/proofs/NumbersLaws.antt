@@ -23,10 +23,11 @@ use Rattle.fdc.specs.declared.record.Registers.{Registers}
 use Rattle.fdc.specs.Record.{driveAt, phaseWait, validOf}
 use Rattle.fdc.specs.Ticks.{seenOf}
 use Rattle.fdc.proofs.ValidLaws.{Valid, valid-true, true-valid}
-use Rattle.reached.specs.Runs.{Call, writes, after}
+use Rattle.reached.specs.Runs.{Call, after}
+use Rattle.reached.specs.Valid.{ValidKept}
 use Rattle.reached.proofs.GoodLaws.{within-rule}
 use Rattle.reached.proofs.RuleLaws.{acts-kept, rule-of}
-use Rattle.reached.proofs.Rules.{Told, Acts, begins, goes-on, bytesThen, phaseThen, Rest, refuses, shows, steps, flags, sets, anew, took, gave, gathers, says, idles, specifies, configures, senses, starts, acts}
+use Rattle.reached.proofs.Rules.{Acts, begins, goes-on, bytesThen, phaseThen, Rest, refuses, shows, steps, flags, sets, anew, took, gave, gathers, says, idles, specifies, configures, senses, starts, acts}
 use Rattle.firmware.proofs.StepShapeLaws.{Fine, room-taken, room-given, go-on-fine, begin-fine}
 
 -- of the engine's step: the FIFO's array and count, and how far it counts bytes
@@ -73,12 +74,9 @@ valid-of c each n = valid-true c (record {
   count3 = each 3 (omega arith) .count;
 })
 
-module _ (call : Call) (c : Controller) (v : Valid c) (untold : (byte : ℕ) → call ≡ writes 5 byte → ⊥) where
+module _ (call : Call) (c : Controller) (v : Valid c) where
   same : Numbers (c .registers) (c .fifo) (c .bytes) (c .phase)
   same = record { fifo = v .fifo; gathered = v .gathered; left = v .left; fifothr = v .fifothr; wait = v .wait }
-
-  none-told : {A : Type 0} (command : List ℕ) → Told call c command → A
-  none-told command t = absurd (untold (t .byte) (t .it))
 
   settled : (s : Step) (then : Then) → s .fifo .count ≤ capacityOf (c .registers .efifo) → thenWait then ≤ 63
       → Numbers (c .registers) (s .fifo) (bytesThen then (c .bytes)) (phaseThen then)
@@ -121,14 +119,16 @@ module _ (call : Call) (c : Controller) (v : Valid c) (untold : (byte : ℕ) →
     fifothr = v .fifothr;
     wait = v .wait;
   }
-  numbers ds reply r f b p (gathers b′ t l m k) = none-told _ t
+  numbers ds reply r f b p (gathers b′ t l o m k) =
+      record { fifo = v .fifo; gathered = o; left = m (v .left); fifothr = v .fifothr; wait = omega arith }
   numbers ds reply r f b p (says h free reply′ results left l m k) =
       record { fifo = v .fifo; gathered = omega arith; left = m (v .left); fifothr = v .fifothr; wait = omega arith }
   numbers ds reply r f b p (idles h free reply′) =
       record { fifo = v .fifo; gathered = omega arith; left = omega arith; fifothr = v .fifothr; wait = omega arith }
   numbers ds reply r f b p (specifies command t h second) =
       record { fifo = v .fifo; gathered = omega arith; left = omega arith; fifothr = v .fifothr; wait = omega arith }
-  numbers ds reply r f b p (configures command t h byte track) = none-told command t
+  numbers ds reply r f b p (configures command t h byte track) =
+      record { fifo = omega arith; gathered = omega arith; left = omega arith; fifothr = omega arith; wait = omega arith }
   numbers ds reply r f b p (senses command t h unit) =
       record { fifo = v .fifo; gathered = omega arith; left = omega arith; fifothr = v .fifothr; wait = omega arith }
   numbers ds reply r f b p (starts command t h order o) =
@@ -136,11 +136,10 @@ module _ (call : Call) (c : Controller) (v : Valid c) (untold : (byte : ℕ) →
   numbers ds reply r f b p (acts x y q h s a) =
       settled s (s .then) (acts-fine x y c s a .room .within (v .fifo)) (acts-kept x y c s a .0)
 
--- 01 Refusals 4: every call but a write to the data register
-pub valid-kept : (call : Call) (c : Controller) → ((byte : ℕ) → call ≡ writes 5 byte → ⊥) → validOf c ≡ true
-    → validOf (after call c) ≡ true
-valid-kept call c untold h =
+-- 01 Refusals 4: of every call; power-on gives a valid record whatever it is handed
+pub valid-kept : ValidKept
+valid-kept call c h =
     let u = rule-of call c in
     let v = true-valid c h in
     valid-of (after call c) (λ k l. within-rule call c _ k _ (u .drives k l) (each-within c v k l))
-    (numbers call c v untold _ _ _ _ _ _ (u .rest))
+    (numbers call c v _ _ _ _ _ _ (u .rest))

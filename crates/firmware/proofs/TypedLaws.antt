@@ -5,9 +5,9 @@ use Prim.Native.Nat.{ℕ, zero, suc, _-_, _/_, _≤_, _<_}
 use native.Mathlib.Omega.{arith}
 use mathlib.Core.Bool.{Bool, true, false}
 use mathlib.Core.List.{List, [], _∷_}
-use mathlib.Core.Path.{_≡_, refl, _∙_}
+use mathlib.Core.Path.{_≡_, refl}
 use lib.Dec.{eqb, leb, ltb}
-use lib.ListN.{length, length-set}
+use lib.ListN.{length}
 use Rattle.image.proofs.TestLaws.{by-test}
 use Rattle.chip.specs.declared.fifo.Fifo.{Fifo}
 use Rattle.chip.proofs.StepLaws.{step-most}
@@ -33,7 +33,7 @@ use Rattle.fdc.specs.Record.{freshOf, driveAt, validOf}
 use Rattle.fdc.specs.Ticks.{tickOf}
 use Rattle.reached.specs.Runs.{Call, powers, ticks, answerTo, after, runCalls}
 use Rattle.firmware.proofs.NumbersLaws.{acts-fine, valid-kept}
-use Rattle.reached.proofs.RuleLaws.{rule-of}
+use Rattle.reached.proofs.RuleLaws.{told-room, rule-of}
 use Rattle.reached.proofs.Rules.{DriveRule, kept, noted, powered, reset, restarted, released, sensed, set-off, ticked, bytesThen, phaseThen, Rest, refuses, shows, steps, flags, sets, anew, took, gave, gathers, says, idles, specifies, configures, senses, starts, acts}
 use Rattle.firmware.proofs.StepShapeLaws.{room-taken, room-given, thenDone}
 use Rattle.pack.specs.Back.{DrivesFit, Typed}
@@ -160,10 +160,10 @@ module _ (call : Call) (c : Controller) (t : Typed c) where
         results = t .results;
         done = t .done;
       }
-  shapes ds reply r f b p (gathers b′ u l m k) =
+  shapes ds reply r f b p (gathers b′ u l o m k) =
       record {
         fifo = t .fifo;
-        command = rw (u .bytes) (length-set (c .bytes .command) (c .bytes .gathered) (u .byte) ∙ t .command);
+        command = told-room call c _ u (t .command);
         results = k (t .results);
         done = omega arith;
       }
@@ -174,7 +174,7 @@ module _ (call : Call) (c : Controller) (t : Typed c) where
   shapes ds reply r f b p (specifies command u h second) =
       record { fifo = t .fifo; command = refl; results = refl; done = omega arith }
   shapes ds reply r f b p (configures command u h byte track) =
-      record { fifo = t .fifo; command = refl; results = refl; done = omega arith }
+      record { fifo = refl; command = refl; results = refl; done = omega arith }
   shapes ds reply r f b p (senses command u h unit) =
       record { fifo = t .fifo; command = refl; results = refl; done = omega arith }
   shapes ds reply r f b p (starts command u h order o) =
@@ -227,5 +227,4 @@ typed-run (call ∷ calls) c t = typed-run calls (after call c) (typed-after cal
 -- 01 Refusals 4: a tick damages no record
 pub valid-ticked : (a b : List ℕ) (c : Controller) → validOf c ≡ true → validOf (tickOf a b c .controller) ≡ true
 unfolding answerTo
-valid-ticked a b c v =
-    valid-kept (ticks a b) c (λ byte e. let z : _≡_ {A = ℕ} 0 1 = cc in absurd (omega arith)) v
+valid-ticked a b c v = valid-kept (ticks a b) c v

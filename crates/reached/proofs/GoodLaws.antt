@@ -168,7 +168,7 @@ module _ (call : Call) (c : Controller) (g : Good c) where
     left = g .left;
     phase = suits-fifo (c .phase) work _ (c .fifo) _ q (g .phase);
   }
-  holds ds reply r f b p (gathers b′ t l m k) = record {
+  holds ds reply r f b p (gathers b′ t l o m k) = record {
     fifo = g .fifo;
     fifothr = g .fifothr;
     left = m (g .left);
@@ -193,10 +193,10 @@ module _ (call : Call) (c : Controller) (g : Good c) where
     phase = (refl, told-empty command t);
   }
   holds ds reply r f b p (configures command t h byte track) = record {
-    fifo = rw (told-empty command t) (fits-emptied _);
+    fifo = fits-emptied _;
     fifothr = omega arith;
     left = omega arith;
-    phase = (refl, told-empty command t);
+    phase = (refl, refl);
   }
   holds ds reply r f b p (senses command t h unit) = record {
     fifo = g .fifo;

@@ -93,7 +93,7 @@ module _ (call : Call) (c : Controller) (calm : Calm call) (step : ℕ) (awake :
   awake-rule ds reply r f b p l (anew x reply′ n e t s m) = absurd (calm-stays call calm x)
   awake-rule ds reply r f b p l (took tc x work q h asks) = awake
   awake-rule ds reply r f b p l (gave byte tc x work q h asks) = awake
-  awake-rule ds reply r f b p l (gathers b′ t m n o) = awake
+  awake-rule ds reply r f b p l (gathers b′ t m x n o) = awake
   awake-rule ds reply r f b p l (says h free reply′ results left m n o) = awake
   awake-rule ds reply r f b p l (idles h free reply′) = awake
   awake-rule ds reply r f b p l (specifies command t h second) =

@@ -7,7 +7,7 @@ use mathlib.Core.List.{List, [], _∷_}
 use mathlib.Core.Logic.{_⊎_, inl, inr}
 use mathlib.Core.Path.{_≡_, refl, sym, ap, _∙_}
 use lib.Dec.{eqb, leb, ltb}
-use lib.ListN.{length, getD, set, length-set, length-append, length-drop}
+use lib.ListN.{length, getD, set, length-set}
 use borrow.Author.Tests.{eqb-true, eqb-false, eq-eqb, leb-true, leb-false, ltb-true}
 use Rattle.image.proofs.TestLaws.{by-test, both}
 use Rattle.image.specs.Lent.{pickOf}
@@ -44,11 +44,14 @@ use Rattle.fdc.specs.Answer.{answerOf}
 use Rattle.fdc.specs.Calls.{portOf, readReg, writeReg, powerOn, readPort, writePort, dmaRead, dmaWrite, noteChange}
 use Rattle.fdc.specs.Commands.{answeredOf, saidOf, saidTwo, idledOf, lowest, specifyOf, configureOf, sensingOf, reporterOf, sensedOf, ticksOf, soughtOf, recalibratedOf, startedOf, ranOf, heedsOf, runOf, gatheredOf, goesOn, begunOf}
 use Rattle.fdc.specs.Data.{shifted, resultTaken, readIn, readFifo, offeredOf, writeFifo, phaseToHost, phaseFromHost, dmaReadOf, dmaWriteOf}
-use Rattle.fdc.specs.Record.{freshOf, driveAt, withRegisters, withDrives, withFifo, withBytes, withPhase, withDrive, validOf}
+use Rattle.fdc.specs.Record.{freshOf, noBytes, driveAt, withRegisters, withDrives, withFifo, withBytes, withPhase, withDrive, validOf}
 use Rattle.fdc.specs.Registers.{heldIn, gateIn, dmaIn, bit, busyBits, flowStatus, phaseStatus, msrOf, flowAsks, phaseAsks, drqOf, anyBusy}
 use Rattle.fdc.specs.Reset.{resetAll, resetOf, reportAll, releasedBy, releasedOf, withDor, withTdr, withRate, wroteDor, wroteDsr}
 use Rattle.chip.specs.Fifo.{Fits}
 use Rattle.fdc.specs.Ticks.{seenOf, tickAll, steppedOf, sensedAt, stillOf, settledOf, decidedOf, startOf, workOf, decideIn, decideOf, ruledOf, tickOf}
+use Rattle.fdc.proofs.BeginLaws.{one-more-le}
+use Rattle.fdc.proofs.DmaLaws.{dma-read-is, dma-write-is}
+use Rattle.fdc.proofs.PadLaws.{length-shifted}
 use Rattle.reached.specs.Runs.{Call, powers, reads, writes, takes, gives, ticks, notes, answerTo}
 use Rattle.reached.proofs.Rules.{engaged, Restarts, by-power, by-dor, by-dsr, DriveRule, kept, noted, powered, reset, restarted, released, sensed, set-off, ticked, SameSettings, by-read, by-cycle, by-write, by-dma, Collects, first, further, Told, Orders, moving, formatting, identifying, Acts, begins, goes-on, bytesThen, phaseThen, Rest, refuses, shows, steps, flags, sets, anew, took, gave, gathers, says, idles, specifies, configures, senses, starts, acts, Ruled}
 
@@ -258,6 +261,16 @@ pub collects-unengaged : (c : Controller) (byte : ℕ) (entry : Entry) → Colle
 collects-unengaged c byte entry (first e) = ap engaged e
 collects-unengaged c byte entry (further entry′ e) = ap engaged e
 
+-- with their room
+pub told-room : (call : Call) (c : Controller) (command : List ℕ) (t : Told call c command)
+    → length (c .bytes .command) ≡ 9 → length command ≡ 9
+told-room call c command t l =
+    rw (t .bytes) (length-set (t .from .command) (t .from .gathered) (t .byte) ∙ go (t .whence))
+  where
+    go : (t .from ≡ c .bytes) ⊎ (t .from ≡ noBytes) → length (t .from .command) ≡ 9
+    go (inl e) = rw e l
+    go (inr e) = rw e
+
 -- the commands
 module _ (call : Call) (c : Controller) (b : Bytes) (t : Told call c (b .command)) where
   unengaged : engaged (c .phase) ≡ false
@@ -322,7 +335,7 @@ module _ (call : Call) (c : Controller) (b : Bytes) (t : Told call c (b .command
 
   -- a complete command, where none is busy or it heeds no busy bit
   ran : (kind : Kind) → (heedsOf kind ≡ false → anyBusy (c .drives) ≡ false) → Left (ranOf kind (withBytes b c))
-  unfolding ranOf specifyOf configureOf sensingOf withPhase idledOf withRegisters withBytes
+  unfolding ranOf specifyOf configureOf sensingOf withPhase idledOf withRegisters withFifo withBytes
   ran Unknown f = said 0x80
   ran ReadData f = started _ (moving _ _) (f refl)
   ran ReadDeleted f = started _ (moving _ _) (f refl)
@@ -349,12 +362,12 @@ module _ (call : Call) (c : Controller) (b : Bytes) (t : Told call c (b .command
       none true false f h = absurd (true≢false f)
       none false b f h = refl
 
-  collected : (c .bytes .left ≤ 7 → b .left ≤ 7) → (length (c .bytes .results) ≡ 7 → length (b .results) ≡ 7)
+  collected : b .gathered ≤ 9 → (c .bytes .left ≤ 7 → b .left ≤ 7) → (length (c .bytes .results) ≡ 7 → length (b .results) ≡ 7)
       → Left (goesOn (t .entry) (withBytes b c))
   unfolding goesOn withPhase withBytes answerOf
-  collected p q =
+  collected n p q =
       by-test (ltb (b .gathered) (t .entry .bytes)) Left _ _
-      (λ l. leaves call c _ _ refl (gathers b t (ltb-true _ _ l) p q))
+      (λ l. leaves call c _ _ refl (gathers b t (ltb-true _ _ l) n p q))
       (λ _. run (t .entry .kind))
 
 -- the data register: a read
@@ -377,7 +390,7 @@ module _ (c : Controller) (e : eqb (msrOf c / 64) 3 ≡ true) where
   read-in (Answering loud) q =
       by-test (leb (c .bytes .left) 1) (λ (x : Controller). Ruled (reads 5) c (answerOf (Byte (getD (c .bytes .results) 0 0)) x)) _ _
       (λ _. leaves (reads 5) c _ _ refl (idles (ap engaged q) read-free _))
-      (λ t. leaves (reads 5) c _ _ refl (says (ap engaged q) read-free _ (shifted (c .bytes .results)) (c .bytes .left - 1) (omega (arith, leb-false (c .bytes .left) 1 t)) (λ l. omega arith) (λ l. simp (length-append, length-drop) (omega (arith, l)))))
+      (λ t. leaves (reads 5) c _ _ refl (says (ap engaged q) read-free _ (shifted (c .bytes .results)) (c .bytes .left - 1) (omega (arith, leb-false (c .bytes .left) 1 t)) (λ l. omega arith) (λ l. length-shifted (c .bytes .results) l)))
 
 -- and a write
 module _ (byte : ℕ) (c : Controller) (e : eqb (msrOf c / 64) 2 ≡ true) where
@@ -389,13 +402,27 @@ module _ (byte : ℕ) (c : Controller) (e : eqb (msrOf c / 64) 2 ≡ true) where
   unfolding msrOf
   write-turned p q = rw (write-free, q) at e
 
-  told : (entry : Entry) → Collects c byte entry → Told (writes 5 byte) c (set (c .bytes .command) (c .bytes .gathered) byte)
-  told entry by = record { byte = byte; entry = entry; it = refl; free = write-free; by = by; bytes = refl }
+  told : (entry : Entry) → Collects c byte entry → (from : Bytes) → (from ≡ c .bytes) ⊎ (from ≡ noBytes)
+      → Told (writes 5 byte) c (set (from .command) (from .gathered) byte)
+  told entry by from w = record {
+    byte = byte;
+    entry = entry;
+    it = refl;
+    free = write-free;
+    by = by;
+    from = from;
+    whence = w;
+    bytes = refl;
+  }
 
   offered : (p : Phase) → c .phase ≡ p → Ruled (writes 5 byte) c (answerOf Done (offeredOf p byte c))
-  unfolding offeredOf begunOf gatheredOf withFifo answerOf goesOn entryOf told
-  offered Idle q = collected (writes 5 byte) c _ (told _ (first q)) (λ l. l) (λ l. l)
-  offered (Gathering entry) q = collected (writes 5 byte) c _ (told _ (further entry q)) (λ l. l) (λ l. l)
+  unfolding offeredOf begunOf gatheredOf withBytes withFifo answerOf goesOn entryOf told
+  offered Idle q =
+      collected (writes 5 byte) c (gatheredOf byte (withBytes noBytes c) .bytes) (told _ (first q) noBytes (inr refl))
+      (one-more-le 0) (λ _. omega arith) (λ _. refl)
+  offered (Gathering entry) q =
+      collected (writes 5 byte) c (gatheredOf byte c .bytes) (told _ (further entry q) (c .bytes) (inl refl))
+      (one-more-le (c .bytes .gathered)) (λ l. l) (λ l. l)
   offered (Starting order) q = wrong-turn 0x10 2 _ (busy-below (c .drives)) (inl (omega arith)) (write-turned _ q)
   offered (Working work) q =
       let z = write-turn (flowOf work) _ _ _ (busy-below (c .drives)) (write-turned _ q) in
@@ -405,22 +432,22 @@ module _ (byte : ℕ) (c : Controller) (e : eqb (msrOf c / 64) 2 ≡ true) where
 
 -- the DMA cycles
 take-rule : (tc : Bool) (c : Controller) → Ruled (takes tc) c (dmaReadOf tc c)
-unfolding dmaReadOf withFifo answerOf
+unfolding withFifo answerOf
 take-rule tc c =
-    by-test (drqOf c && phaseToHost (c .phase)) (Ruled (takes tc) c) _ _
+    rw (dma-read-is tc c) (by-test (drqOf c && phaseToHost (c .phase)) (Ruled (takes tc) c) _ _
     (λ t. let (line, to) = both (drqOf c) (phaseToHost (c .phase)) t in
     let (work, p, asks) = drq-works c line in
     leaves (takes tc) c _ _ refl (took tc (by-cycle tc refl) work p (sym (ap phaseToHost p) ∙ to) asks))
-    (λ _. same (takes tc) c _ (refuses _))
+    (λ _. same (takes tc) c _ (refuses _)))
 
 give-rule : (byte : ℕ) (tc : Bool) (c : Controller) → Ruled (gives byte tc) c (dmaWriteOf byte tc c)
-unfolding dmaWriteOf withFifo answerOf
+unfolding withFifo answerOf
 give-rule byte tc c =
-    by-test (drqOf c && phaseFromHost (c .phase)) (Ruled (gives byte tc) c) _ _
+    rw (dma-write-is byte tc c) (by-test (drqOf c && phaseFromHost (c .phase)) (Ruled (gives byte tc) c) _ _
     (λ t. let (line, from) = both (drqOf c) (phaseFromHost (c .phase)) t in
     let (work, p, asks) = drq-works c line in
     leaves (gives byte tc) c _ _ refl (gave byte tc (by-dma tc refl) work p (sym (ap phaseFromHost p) ∙ from) asks))
-    (λ _. same (gives byte tc) c _ (refuses _))
+    (λ _. same (gives byte tc) c _ (refuses _)))
 
 -- the registers
 read-rule : (offset : ℕ) (p : Port) (c : Controller) → AtPort p offset → Ruled (reads offset) c (readReg p c)

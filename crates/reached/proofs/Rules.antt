@@ -40,7 +40,7 @@ use Rattle.fdc.specs.declared.record.Phase.the-variants.{Idle, Gathering, Start
 use Rattle.fdc.specs.declared.record.Registers.{Registers}
 use Rattle.fdc.specs.Commands.{specifiedOf, configuredOf, moveOrder, formatOrder, identifyOrder, ticksOf}
 use Rattle.fdc.specs.Data.{phaseHears}
-use Rattle.fdc.specs.Record.{noBytes, driveAt}
+use Rattle.fdc.specs.Record.{padded, noBytes, driveAt}
 use Rattle.fdc.specs.Registers.{heldIn, anyBusy}
 use Rattle.fdc.specs.Ticks.{seenOf}
 use Rattle.reached.specs.Runs.{Call, powers, reads, writes, takes, gives, ticks, notes}
@@ -104,7 +104,10 @@ pub record Told (call : Call) (c : Controller) (command : List ℕ) : Type 0 whe
   pub it : call ≡ writes 5 byte
   pub free : heldIn (c .registers .dor) ≡ false
   pub by : Collects c byte entry
-  pub bytes : command ≡ set (c .bytes .command) (c .bytes .gathered) byte
+  -- the first byte is byte 0, whatever was held
+  pub from : Bytes
+  pub whence : (from ≡ c .bytes) ⊎ (from ≡ noBytes)
+  pub bytes : command ≡ set (from .command) (from .gathered) byte
 
 pub data Orders (command : List ℕ) : Order → Type 0 where
   moving : (pass : Pass) (deleted : Bool) → Orders command (moveOrder command pass deleted)
@@ -127,7 +130,7 @@ waiting results left = record { command = replicate 9 0; gathered = 0; results =
 
 abbrev pub bytesThen : Then → Bytes → Bytes
 bytesThen (Ends v) bytes =
-    waiting (v .st0 ∷ v .st1 ∷ v .st2 ∷ v .id .c ∷ v .id .h ∷ v .id .r ∷ v .id .n ∷ []) 7
+    waiting (padded (v .st0 ∷ v .st1 ∷ v .st2 ∷ v .id .c ∷ v .id .h ∷ v .id .r ∷ v .id .n ∷ [])) 7
 bytesThen (Works work) bytes = bytes
 
 abbrev pub phaseThen : Then → Phase
@@ -157,7 +160,7 @@ pub data Rest (call : Call) (c : Controller) (drives : List Drive) : Reply → R
       → Rest call c drives Done (c .registers) (givenOf (c .registers .efifo) (tc && phaseHears (c .phase)) byte (c .fifo))
       (c .bytes) (c .phase)
   -- a command byte of several
-  gathers : (b : Bytes) (t : Told call c (b .command)) → b .gathered < t .entry .bytes
+  gathers : (b : Bytes) (t : Told call c (b .command)) → b .gathered < t .entry .bytes → b .gathered ≤ 9
       → (c .bytes .left ≤ 7 → b .left ≤ 7) → (length (c .bytes .results) ≡ 7 → length (b .results) ≡ 7)
       → Rest call c drives Done (c .registers) (c .fifo) b (Gathering (t .entry))
   -- bytes to be taken, none of a data command; or nothing more
@@ -170,7 +173,7 @@ pub data Rest (call : Call) (c : Controller) (drives : List Drive) : Reply → R
   specifies : (command : List ℕ) → Told call c command → anyBusy (c .drives) ≡ false → (second : ℕ)
       → Rest call c drives Done (specifiedOf (c .registers) (getD command 1 0) second) (c .fifo) noBytes Idle
   configures : (command : List ℕ) → Told call c command → anyBusy (c .drives) ≡ false → (byte track : ℕ)
-      → Rest call c drives Done (configuredOf (c .registers) byte track) (c .fifo) noBytes Idle
+      → Rest call c drives Done (configuredOf (c .registers) byte track) emptied noBytes Idle
   senses : (command : List ℕ) → Told call c command → anyBusy (c .drives) ≡ false → (unit : ℕ)
       → Rest call c drives Done (c .registers) (c .fifo) noBytes (Sensing unit)
   starts : (command : List ℕ) → Told call c command → anyBusy (c .drives) ≡ false → (order : Order)
