@@ -28,7 +28,7 @@ fn cycled(s: &mut [u8], reply: Reply, f: Fifo) -> u32
     word_in(reply, int, f.asks)
 }
 
-// The host takes the front byte.
+// The host takes a byte.
 pub(crate) fn read_cycle(s: &mut [u8], tc: bool) -> u32
     requires { ⌜ (isRecord (now s) ≡ true) × (readingIn (now s) ≡ true) ⌝ }
     ensures word { λ r. ⌜ r ≡ wordOf (dmaRead tc (recordIn (now (s .entry)))) ⌝ }
@@ -37,7 +37,7 @@ pub(crate) fn read_cycle(s: &mut [u8], tc: bool) -> u32
     ensures back { λ _. ⌜ Holds (now (s .exit)) (dmaRead tc (recordIn (now (s .entry))) .controller) ⌝ }
 {
     let f = load_fifo(s);
-    let byte = f.front();
+    let byte = f.handed();
     let next = f.taken(tc);
     cycled(s, Reply::Byte(byte), next)
 }

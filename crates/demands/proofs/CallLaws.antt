@@ -11,6 +11,8 @@ use Rattle.image.proofs.TestLaws.{by-test}
 use Rattle.image.specs.Lent.{pickOf}
 use Rattle.chip.specs.declared.fifo.Fifo.{Fifo}
 use Rattle.chip.specs.declared.refusal.Refusal.{Refusal}
+use Rattle.chip.specs.Fifo.{Fits}
+use Rattle.chip.proofs.FifoLaws.{handed-fits}
 use Rattle.drive.specs.declared.Drive.{Drive}
 use Rattle.sectors.specs.declared.order.Order.{Order}
 use Rattle.sectors.specs.declared.work.Work.{Work}
@@ -230,7 +232,7 @@ module _ (call : Call) (c : Controller) (w : atWork (c .phase) ≡ true) where
   by-calm n calm (on p f t x) = keeps (λ head0 head1 e. calm-stays call calm (by-power head0 head1 e)) n p f t
 
   -- what a call that may hand the host a byte hands over
-  module _ (e : Controller) (m : MayTake call) where
+  module _ (e : Controller) (m : MayTake call) (fits : Fits (c .registers .efifo) (c .fifo)) where
     restarts-none : {A : Type 0} → Restarts call → A
     restarts-none (by-power head0 head1 q) = absurd (rw q at m)
     restarts-none (by-dor byte q held) = absurd (rw q at m)
@@ -259,7 +261,8 @@ module _ (call : Call) (c : Controller) (w : atWork (c .phase) ≡ true) where
     taken-way ds reply r f b p y ef (sets offset byte q o n s) = absurd (rw q at m)
     taken-way ds reply r f b p y ef (anew x reply′ n i t s still) = restarts-none x
     taken-way ds reply r f b p y ef (took-byte tc x work q h asks) =
-        one-taken tc (ap phaseToHost q ∙ h) asks ef (taken-one tc x _ y)
+        one-taken tc (ap phaseToHost q ∙ h) asks ef
+        (taken-one tc x _ (y ∙ ap Byte (handed-fits (c .registers .efifo) (c .fifo) fits)))
     taken-way ds reply r f b p y ef (gave-byte byte tc x work q h asks) = gives-none byte tc x
     taken-way ds reply r f b p y ef (gathers b′ t l o n k) = told-elsewhere _ t
     taken-way ds reply r f b p y ef (says h free reply′ results left l n k) = elsewhere h
@@ -296,4 +299,5 @@ calm-keeps call c q w n calm = by-calm call c w n calm (ruled call c w n)
 
 module _ (c : Controller) (q : Quiet c) (w : atWork (c .phase) ≡ true) where
   pub taken-rule : (call : Call) → MayTake call → TakenRule call c (after call c)
-  taken-rule call m = taken-way call c w (after call c) m _ _ _ _ _ _ refl refl (rule-of call c .rest)
+  taken-rule call m =
+      taken-way call c w (after call c) m (q .good .fifo) _ _ _ _ _ _ refl refl (rule-of call c .rest)

@@ -18,6 +18,7 @@ use Rattle.image.specs.Lent.{pickOf}
 use Rattle.image.proofs.TestLaws.{le-or-lt}
 use Rattle.chip.specs.declared.fifo.Fifo.{Fifo}
 use Rattle.chip.specs.Fifo.{emptied, frontOf, takenOf}
+use Rattle.chip.proofs.FifoLaws.{handed-fits}
 use Rattle.sectors.specs.declared.order.Job.the-variants.{Move}
 use Rattle.sectors.specs.declared.order.Order.{Order}
 use Rattle.sectors.specs.declared.order.Pass.the-variants.{Read}
@@ -75,7 +76,8 @@ tick-registers a b c drive o e =
 module _ (tc : Bool) (c : Controller) (q : Quiet c) (line : drqOf c ≡ true) (to : phaseToHost (c .phase) ≡ true) where
   takes-answer : answerTo (takes tc) c ≡ answerOf (Byte (frontOf (c .fifo))) (withFifo (takenOf tc (c .fifo)) c)
   unfolding answerTo dmaRead
-  takes-answer = rw (good-valid c (q .good), dma-read-is tc c, line, to)
+  takes-answer =
+      rw (good-valid c (q .good), dma-read-is tc c, line, to, handed-fits (c .registers .efifo) (c .fifo) (q .good .fifo))
 
   takes-record : after (takes tc) c ≡ withFifo (takenOf tc (c .fifo)) c
   unfolding answerOf

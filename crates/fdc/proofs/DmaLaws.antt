@@ -4,7 +4,7 @@ use Prim.Native.Nat.{ℕ}
 use mathlib.Core.Bool.{Bool, true, false, _&&_, cond}
 use mathlib.Core.Path.{_≡_, refl}
 use Rattle.chip.specs.declared.refusal.Refusal.the-variants.{Line}
-use Rattle.chip.specs.Fifo.{frontOf, takenOf, givenOf}
+use Rattle.chip.specs.Fifo.{handedOf, takenOf, givenOf}
 use Rattle.engine.specs.declared.flow.Flow.{Flow}
 use Rattle.engine.specs.declared.flow.Flow.the-variants.{Quiet, ToHost, FromHost}
 use Rattle.engine.specs.Step.{toHost, fromHost}
@@ -17,7 +17,7 @@ use Rattle.fdc.specs.Record.{withFifo}
 use Rattle.fdc.specs.Registers.{phaseFlow, drqOf}
 
 abbrev pub tookOf : Bool → Controller → Answer
-tookOf tc c = answerOf (Byte (frontOf (c .fifo))) (withFifo (takenOf tc (c .fifo)) c)
+tookOf tc c = answerOf (Byte (handedOf (c .fifo))) (withFifo (takenOf tc (c .fifo)) c)
 
 abbrev pub gaveOf : ℕ → Bool → Controller → Answer
 gaveOf byte tc c =

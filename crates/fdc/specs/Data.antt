@@ -5,7 +5,7 @@ use mathlib.Core.Bool.{Bool, false, _&&_, cond}
 use mathlib.Core.List.{List}
 use lib.Dec.{eqb, leb}
 use lib.ListN.{getD, drop}
-use Rattle.chip.specs.Fifo.{frontOf, takenOf, givenOf}
+use Rattle.chip.specs.Fifo.{handedOf, takenOf, givenOf}
 use Rattle.engine.specs.declared.flow.Flow.{Flow}
 use Rattle.engine.specs.declared.flow.Flow.the-variants.{Quiet, ToHost, FromHost}
 use Rattle.engine.specs.Step.{toHost, fromHost, hearsTc}
@@ -32,7 +32,7 @@ unfoldable pub readIn : Phase → Controller → Answer
 readIn Idle c = answerOf (refused 2) c
 readIn (Gathering entry) c = answerOf (refused 2) c
 readIn (Starting order) c = answerOf (refused 2) c
-readIn (Working work) c = answerOf (Byte (frontOf (c .fifo))) (withFifo (takenOf false (c .fifo)) c)
+readIn (Working work) c = answerOf (Byte (handedOf (c .fifo))) (withFifo (takenOf false (c .fifo)) c)
 readIn (Sensing unit) c = answerOf (refused 2) c
 readIn (Answering loud) c = answerOf (Byte (getD (c .bytes .results) 0 0)) (resultTaken c)
 
@@ -70,7 +70,7 @@ phaseHears (Answering loud) = false
 -- a byte moved the way the flow goes: to the host the oldest one, from it the one on the bus. 01 Format: TC is ignored
 unfoldable pub movedOf : Flow → ℕ → Bool → Controller → Answer
 movedOf Quiet byte tc c = answerOf (refused 3) c
-movedOf ToHost byte tc c = answerOf (Byte (frontOf (c .fifo))) (withFifo (takenOf tc (c .fifo)) c)
+movedOf ToHost byte tc c = answerOf (Byte (handedOf (c .fifo))) (withFifo (takenOf tc (c .fifo)) c)
 movedOf FromHost byte tc c =
     answerOf Done (withFifo (givenOf (c .registers .efifo) (tc && phaseHears (c .phase)) byte (c .fifo)) c)
 

@@ -95,7 +95,7 @@ impl Controller {
             Phase::Gathering(_) => self.answer(Reply::Refused(Refusal::Turn)),
             Phase::Starting(_) => self.answer(Reply::Refused(Refusal::Turn)),
             Phase::Working(_) => {
-                let byte = self.fifo.front();
+                let byte = self.fifo.handed();
                 self.with_fifo(self.fifo.taken(false))
                     .answer(Reply::Byte(byte))
             }
@@ -152,9 +152,9 @@ impl Controller {
         match flow {
             Flow::Quiet => self.answer(Reply::Refused(Refusal::Line)),
             Flow::ToHost => {
-                let front = self.fifo.front();
+                let out = self.fifo.handed();
                 self.with_fifo(self.fifo.taken(tc))
-                    .answer(Reply::Byte(front))
+                    .answer(Reply::Byte(out))
             }
             Flow::FromHost => {
                 let phase = self.phase;

@@ -10,7 +10,7 @@ use lib.Dec.{eqb, leb}
 use lib.ListN.{length, getD}
 use borrow.Author.Tests.{le-leb}
 use Rattle.image.proofs.TestLaws.{by-test, le-or-lt}
-use Rattle.chip.specs.Fifo.{frontOf}
+use Rattle.chip.specs.Fifo.{frontOf, handedOf}
 use Rattle.engine.specs.declared.flow.Flow.{Flow}
 use Rattle.engine.specs.declared.flow.Flow.the-variants.{Quiet, ToHost, FromHost}
 use Rattle.engine.specs.Step.{flowOf}
@@ -53,6 +53,9 @@ module _ (c : Controller) (dor : c .registers .dor < 256) (front : frontOf (c .f
     (result : getD (c .bytes .results) 0 0 < 256) where
   abbrev Small : Answer → Type 0
   Small answer = valueOf (answer .reply) < 0x100
+
+  handed-small : handedOf (c .fifo) < 0x100
+  handed-small = by-test (eqb (c .fifo .count) 0) (λ (n : ℕ). n < 0x100) _ _ (λ _. omega arith) (λ _. front)
 
   bit-small : (on : Bool) → bit on ≤ 1
   bit-small true = omega arith
@@ -101,7 +104,7 @@ module _ (c : Controller) (dor : c .registers .dor < 256) (front : frontOf (c .f
   read-in-small Idle = omega arith
   read-in-small (Gathering entry) = omega arith
   read-in-small (Starting order) = omega arith
-  read-in-small (Working work) = front
+  read-in-small (Working work) = handed-small
   read-in-small (Sensing unit) = omega arith
   read-in-small (Answering loud) = result
 
@@ -124,7 +127,7 @@ module _ (c : Controller) (dor : c .registers .dor < 256) (front : frontOf (c .f
   take-small tc =
       by-test (validOf c) Small _ _
       (λ _. rw (dma-read-is tc c)
-      (by-test (drqOf c && phaseToHost (c .phase)) Small _ _ (λ _. front) (λ _. omega arith)))
+      (by-test (drqOf c && phaseToHost (c .phase)) Small _ _ (λ _. handed-small) (λ _. omega arith)))
       (λ _. omega arith)
 
 -- 01 Refusals 5 is power-on's alone

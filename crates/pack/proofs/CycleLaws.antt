@@ -11,7 +11,7 @@ use lib.Seq.{sets, sets-eq, drop-drop}
 use borrow.Author.Tests.{le-leb, eqb-true}
 use Rattle.image.proofs.TestLaws.{by-test, both}
 use Rattle.chip.specs.declared.fifo.Fifo.{Fifo}
-use Rattle.chip.specs.Fifo.{capacityOf, frontOf, takenOf, givenOf}
+use Rattle.chip.specs.Fifo.{capacityOf, handedOf, takenOf, givenOf}
 use Rattle.engine.specs.Step.{passFlow, stageWait}
 use Rattle.sectors.specs.declared.work.Stage.{Stage}
 use Rattle.sectors.specs.declared.order.Pass.{Pass}
@@ -223,7 +223,7 @@ writing-told l h = pass-told 1 l h
 -- 01 FIFO: the host takes the front byte
 pub reading-cycle : (tc : Bool) (l : List ℕ) → readingIn l ≡ true
     → dmaRead tc (recordIn l)
-    ≡ answerOf (Byte (frontOf (recordIn l .fifo))) (withFifo (takenOf tc (recordIn l .fifo)) (recordIn l))
+    ≡ answerOf (Byte (handedOf (recordIn l .fifo))) (withFifo (takenOf tc (recordIn l .fifo)) (recordIn l))
 unfolding dmaRead movedOf cycleOf dmaReadOf drqOf recordIn passNumbered
 reading-cycle tc l h =
     let g = reading-told l h in

@@ -14,7 +14,7 @@ use Rattle.image.specs.Lent.{pickOf}
 use Rattle.chip.specs.declared.codes.Entry.{Entry}
 use Rattle.chip.specs.declared.fifo.Fifo.{Fifo}
 use Rattle.chip.specs.declared.refusal.Refusal.{Refusal}
-use Rattle.chip.specs.Fifo.{emptied, frontOf, takenOf, givenOf}
+use Rattle.chip.specs.Fifo.{emptied, handedOf, takenOf, givenOf}
 use Rattle.drive.specs.declared.Drive.{Drive}
 use Rattle.drive.specs.declared.Motion.{Motion}
 use Rattle.drive.specs.declared.Motion.the-variants.{Still}
@@ -154,7 +154,7 @@ pub data Rest (call : Call) (c : Controller) (drives : List Drive) : Reply → R
   -- a byte of a transfer
   took : (tc : Bool) → Takes call tc → (work : Work) → c .phase ≡ Working work → toHost (flowOf work) ≡ true
       → c .fifo .asks ≡ true
-      → Rest call c drives (Byte (frontOf (c .fifo))) (c .registers) (takenOf tc (c .fifo)) (c .bytes) (c .phase)
+      → Rest call c drives (Byte (handedOf (c .fifo))) (c .registers) (takenOf tc (c .fifo)) (c .bytes) (c .phase)
   gave : (byte : ℕ) (tc : Bool) → Gives call byte tc → (work : Work) → c .phase ≡ Working work
       → fromHost (flowOf work) ≡ true → c .fifo .asks ≡ true
       → Rest call c drives Done (c .registers) (givenOf (c .registers .efifo) (tc && phaseHears (c .phase)) byte (c .fifo))

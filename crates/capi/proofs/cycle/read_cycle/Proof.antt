@@ -24,14 +24,14 @@ read-cycle-spec =
     (λ c.
     let at-cycled = c .before .before in
     let at-taken = at-cycled .before .before in
-    let at-front = at-taken .before in
-    let at-load-fifo = at-front .before in
+    let at-handed = at-taken .before in
+    let at-load-fifo = at-handed .before in
     let start = at-load-fifo .before .before .before in
     let law = reading-cycle (start .args .tc) (start .args .s .now) (start .pre .1) in
     let e =
     at-load-fifo .load-fifo .ensures
     ∙ ap (λ (r : Controller). r .fifo) (record-loaded (start .args .s .now) (start .pre .0)) in (
-      rw (law, ← e, ← at-front .front .ensures, ← at-taken .taken .ensures) (at-cycled .cycled .ensures .0),
+      rw (law, ← e, ← at-handed .handed .ensures, ← at-taken .taken .ensures) (at-cycled .cycled .ensures .0),
       (
         rw (law, ← e, ← at-taken .taken .ensures) (at-cycled .cycled .ensures .1 .0),
         rw (law, ← e, ← at-taken .taken .ensures) (at-cycled .cycled .ensures .1 .1),

@@ -16,7 +16,7 @@ moved-spec =
     (λ c. rw (c .before .enum-told .given .1) (c .answer .ensures))
     (λ c. rw (
       c .before .before .before .before .enum-told2 .given .1,
-      ← c .before .before .before .front .ensures,
+      ← c .before .before .before .handed .ensures,
       ← c .before .before .taken .ensures,
       ← c .before .with-fifo .ensures,
     ) (c .answer2 .ensures))

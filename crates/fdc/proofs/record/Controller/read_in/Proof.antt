@@ -19,7 +19,7 @@ read-in-spec =
     (λ c. rw (c .before .enum-told3 .given .1) (c .answer3 .ensures))
     (λ c. rw (
       c .before .before .before .before .enum-told4 .given .1,
-      ← c .before .before .before .front .ensures,
+      ← c .before .before .before .handed .ensures,
       ← c .before .before .taken .ensures,
       ← c .before .with-fifo .ensures,
     ) (c .answer4 .ensures))
