@@ -44,7 +44,7 @@ use Rattle.answers.specs.Accepts.{Specified, Configured, Settings, Waits
 use Rattle.answers.specs.CommandResults.{NoneBusy}
 use Rattle.answers.specs.ReadsOut.{SameElse}
 use Rattle.answers.specs.Registers.{Free}
-use Rattle.answers.proofs.CommandLaws.{none-gathered, none-held, none-busy, one-busy}
+use Rattle.answers.proofs.CommandLaws.{none-held, none-busy, one-busy}
 use Rattle.answers.proofs.FitLaws.{fit-real}
 use Rattle.answers.proofs.RefusalLaws.{busy-le}
 use Rattle.answers.proofs.RegisterLaws.{undamaged-valid, real-undamaged, free-msr}
@@ -409,9 +409,9 @@ module _ (c : Controller) (r : Ready c) (n : NoneBusy c) where
         pretrk = refl;
       })
 
-  configures : (gap byte track : ℕ) → Configured c (afterBytes (0x13 ∷ gap ∷ byte ∷ track ∷ []) c) byte track
+  configures : (gap byte track : ℕ) → c .fifo ≡ emptied → Configured c (afterBytes (0x13 ∷ gap ∷ byte ∷ track ∷ []) c) byte track
   unfolding kindOf ranOf configureOf withRegisters withFifo idledOf
-  configures gap byte track =
+  configures gap byte track none-held =
       let second : getD (setAll (replicate 9 0) 0 (0x13 ∷ gap ∷ byte ∷ track ∷ [])) 2 0
       ≡ byte =
       nine (replicate 9 0)
@@ -425,7 +425,7 @@ module _ (c : Controller) (r : Ready c) (n : NoneBusy c) where
           idle = refl;
           bytes = refl;
           drives = refl;
-          fifo = sym (r .empty);
+          fifo = sym none-held;
           dor = refl;
           tdr = refl;
           rate = refl;
@@ -546,16 +546,17 @@ busy-rule c = record {
 pub settings : (c : Controller) → Settings c
 settings c = record {
   specify = λ first second r n. specifies c r n first second;
-  configure = λ gap byte track r n. configures c r n gap byte track;
+  configure = λ gap byte track r n e. configures c r n gap byte track e;
 }
 
 pub waits-ready : WaitsReady
-waits-ready c w = record {
-  undamaged = real-undamaged c (w .real);
-  free = w .free;
-  idle = w .idle;
-  none = none-gathered c w;
-  room = fit-real c (w .real) .room;
-  empty = none-held c w;
-  four = quiet-real c (w .real) .good .drives .long;
-}
+waits-ready c w = (
+  record {
+    undamaged = real-undamaged c (w .real);
+    free = w .free;
+    idle = w .idle;
+    room = fit-real c (w .real) .room;
+    four = quiet-real c (w .real) .good .drives .long;
+  },
+  none-held c w,
+)

@@ -61,9 +61,6 @@ module _ (c : Controller) (w : Waits c) where
   after-code code =
       rw (real-valid c (w .real), after) (rw (eq-eqb (msrOf c / 64) 2 in-turn, w .idle))
 
-  pub none-gathered : c .bytes .gathered ≡ 0
-  none-gathered = (rw (w .idle) at (good .phase)) .0
-
   pub none-held : c .fifo ≡ emptied
   none-held = (rw (w .idle) at (good .phase)) .1
 

@@ -25,20 +25,17 @@ use Rattle.answers.specs.CommandResults.{Said, Waits, NoneBusy}
 use Rattle.answers.specs.ReadsOut.{SameElse}
 use Rattle.answers.specs.Registers.{Undamaged, Free}
 
--- it waits for a command, with nothing in the FIFO; there is room for nine bytes, and there are four drives, as the
--- arrays' types have it
+-- it waits for a command; there is room for nine bytes, and there are four drives, as the arrays' types have it
 pub record Ready (c : Controller) : Type 0 where
   pub undamaged : Undamaged c
   pub free : Free c
   pub idle : c .phase ≡ Idle
-  pub none : c .bytes .gathered ≡ 0
-  pub empty : c .fifo ≡ emptied
   pub room : length (c .bytes .command) ≡ 9
   pub four : length (c .drives) ≡ 4
 
--- every reached record that waits for a command is such a one
+-- every reached record that waits for a command is such a one, with nothing in the FIFO
 abbrev pub WaitsReady : Type 0
-WaitsReady = (c : Controller) → Waits c → Ready c
+WaitsReady = (c : Controller) → Waits c → Ready c × (c .fifo ≡ emptied)
 
 abbrev pub sends : List ℕ → List Call
 sends [] = []
@@ -178,6 +175,6 @@ pub record Settings (c : Controller) : Type 0 where
   -- Specify 03: three
   pub specify : (first second : ℕ) → Ready c → NoneBusy c
       → Specified c (afterBytes (0x03 ∷ first ∷ second ∷ []) c) first second
-  -- Configure 13: four; its first byte after the code is dropped
-  pub configure : (zero byte track : ℕ) → Ready c → NoneBusy c
+  -- Configure 13: four; its first byte after the code is dropped. It empties the FIFO (D-37)
+  pub configure : (zero byte track : ℕ) → Ready c → NoneBusy c → c .fifo ≡ emptied
       → Configured c (afterBytes (0x13 ∷ zero ∷ byte ∷ track ∷ []) c) byte track

@@ -366,8 +366,10 @@ module _ (img : List ℕ) (head slot : ℕ) (site : Site) (task : Task) (fifo : 
       rw e (
         refl,
         (
-          (omega (arith, advanced-r-at-eot (task .id) (task .transfer .eot) (task .transfer .mt) (site .side) 1 a),
-          w .1),
+          (
+            omega (arith, advanced-r-at-eot (task .id) (task .transfer .eot) (task .transfer .mt) (site .side) 1 a),
+            w .1,
+          ),
           (next-slot-below slot (site .disk .slots) h, refl),
         ),
       )

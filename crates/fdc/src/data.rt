@@ -153,8 +153,7 @@ impl Controller {
             Flow::Quiet => self.answer(Reply::Refused(Refusal::Line)),
             Flow::ToHost => {
                 let out = self.fifo.handed();
-                self.with_fifo(self.fifo.taken(tc))
-                    .answer(Reply::Byte(out))
+                self.with_fifo(self.fifo.taken(tc)).answer(Reply::Byte(out))
             }
             Flow::FromHost => {
                 let phase = self.phase;

@@ -27,7 +27,7 @@ use Rattle.fdc.specs.declared.record.Phase.{Phase}
 use Rattle.fdc.specs.declared.record.Phase.the-variants.{Idle, Gathering, Starting, Working, Sensing, Answering}
 use Rattle.fdc.specs.declared.record.Registers.{Registers}
 use Rattle.fdc.specs.Calls.{powerOn}
-use Rattle.fdc.specs.Record.{freshOf, driveAt, phaseWait, validOf}
+use Rattle.fdc.specs.Record.{resultRoom, freshOf, driveAt, phaseWait, validOf}
 use Rattle.fdc.proofs.ValidLaws.{valid-true}
 use Rattle.reached.specs.Good.{Four, Suits, Good}
 use Rattle.reached.specs.Runs.{Call, powers, answerTo, after, runCalls, Reached}
@@ -119,7 +119,7 @@ entry-le c byte entry (further entry′ e) g = go (c .phase) e (g .phase)
 record Holds (r : Registers) (f : Fifo) (b : Bytes) (p : Phase) : Type 0 where
   fifo : Fits (r .efifo) f
   fifothr : r .fifothr ≤ 15
-  left : b .left ≤ 7
+  left : b .left ≤ resultRoom
   phase : Suits p (b .gathered) f
 
 module _ (call : Call) (c : Controller) (g : Good c) where

@@ -44,7 +44,7 @@ use Rattle.fdc.specs.Answer.{answerOf}
 use Rattle.fdc.specs.Calls.{portOf, readReg, writeReg, powerOn, readPort, writePort, dmaRead, dmaWrite, noteChange}
 use Rattle.fdc.specs.Commands.{answeredOf, saidOf, saidTwo, idledOf, lowest, specifyOf, configureOf, sensingOf, reporterOf, sensedOf, ticksOf, soughtOf, recalibratedOf, startedOf, ranOf, heedsOf, runOf, gatheredOf, goesOn, begunOf}
 use Rattle.fdc.specs.Data.{shifted, resultTaken, readIn, readFifo, offeredOf, writeFifo, phaseToHost, phaseFromHost, dmaReadOf, dmaWriteOf}
-use Rattle.fdc.specs.Record.{freshOf, noBytes, driveAt, withRegisters, withDrives, withFifo, withBytes, withPhase, withDrive, validOf}
+use Rattle.fdc.specs.Record.{resultRoom, freshOf, noBytes, driveAt, withRegisters, withDrives, withFifo, withBytes, withPhase, withDrive, validOf}
 use Rattle.fdc.specs.Registers.{heldIn, gateIn, dmaIn, bit, busyBits, flowStatus, phaseStatus, msrOf, flowAsks, phaseAsks, drqOf, anyBusy}
 use Rattle.fdc.specs.Reset.{resetAll, resetOf, reportAll, releasedBy, releasedOf, withDor, withTdr, withRate, wroteDor, wroteDsr}
 use Rattle.chip.specs.Fifo.{Fits}
@@ -362,7 +362,7 @@ module _ (call : Call) (c : Controller) (b : Bytes) (t : Told call c (b .command
       none true false f h = absurd (true≢false f)
       none false b f h = refl
 
-  collected : b .gathered ≤ 9 → (c .bytes .left ≤ 7 → b .left ≤ 7) → (length (c .bytes .results) ≡ 7 → length (b .results) ≡ 7)
+  collected : b .gathered ≤ 9 → (c .bytes .left ≤ resultRoom → b .left ≤ resultRoom) → (length (c .bytes .results) ≡ resultRoom → length (b .results) ≡ resultRoom)
       → Left (goesOn (t .entry) (withBytes b c))
   unfolding goesOn withPhase withBytes answerOf
   collected n p q =

@@ -40,7 +40,7 @@ use Rattle.fdc.specs.declared.record.Phase.the-variants.{Idle, Gathering, Start
 use Rattle.fdc.specs.declared.record.Registers.{Registers}
 use Rattle.fdc.specs.Commands.{specifiedOf, configuredOf, moveOrder, formatOrder, identifyOrder, ticksOf}
 use Rattle.fdc.specs.Data.{phaseHears}
-use Rattle.fdc.specs.Record.{padded, noBytes, driveAt}
+use Rattle.fdc.specs.Record.{resultRoom, padded, noBytes, driveAt}
 use Rattle.fdc.specs.Registers.{heldIn, anyBusy}
 use Rattle.fdc.specs.Ticks.{seenOf}
 use Rattle.reached.specs.Runs.{Call, powers, reads, writes, takes, gives, ticks, notes}
@@ -161,11 +161,11 @@ pub data Rest (call : Call) (c : Controller) (drives : List Drive) : Reply → R
       (c .bytes) (c .phase)
   -- a command byte of several
   gathers : (b : Bytes) (t : Told call c (b .command)) → b .gathered < t .entry .bytes → b .gathered ≤ 9
-      → (c .bytes .left ≤ 7 → b .left ≤ 7) → (length (c .bytes .results) ≡ 7 → length (b .results) ≡ 7)
+      → (c .bytes .left ≤ resultRoom → b .left ≤ resultRoom) → (length (c .bytes .results) ≡ resultRoom → length (b .results) ≡ resultRoom)
       → Rest call c drives Done (c .registers) (c .fifo) b (Gathering (t .entry))
   -- bytes to be taken, none of a data command; or nothing more
   says : engaged (c .phase) ≡ false → heldIn (c .registers .dor) ≡ false → (reply : Reply) (results : List ℕ) (left : ℕ)
-      → 1 ≤ left → (c .bytes .left ≤ 7 → left ≤ 7) → (length (c .bytes .results) ≡ 7 → length results ≡ 7)
+      → 1 ≤ left → (c .bytes .left ≤ resultRoom → left ≤ resultRoom) → (length (c .bytes .results) ≡ resultRoom → length results ≡ resultRoom)
       → Rest call c drives reply (c .registers) (c .fifo) (waiting results left) (Answering false)
   idles : engaged (c .phase) ≡ false → heldIn (c .registers .dor) ≡ false → (reply : Reply)
       → Rest call c drives reply (c .registers) (c .fifo) noBytes Idle

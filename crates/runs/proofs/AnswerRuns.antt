@@ -4,7 +4,8 @@ use Prim.Native.Nat.{zero, suc}
 use native.Mathlib.Omega.{arith}
 use mathlib.Core.Bool.{false, false≢true}
 use mathlib.Core.List.{[], _∷_, _++_}
-use mathlib.Core.Path.{refl, ap}
+use mathlib.Core.Path.{_≡_, refl, ap}
+use Rattle.chip.specs.Fifo.{emptied}
 use Rattle.engine.specs.First as First
 use Rattle.sectors.specs.declared.order.Pass.{Pass}
 use Rattle.reached.specs.Examples.{command, readied}
@@ -22,7 +23,7 @@ use Rattle.runs.proofs.Open.{allOpen}
 use Rattle.runs.proofs.RowRuns.{real-box}
 use Rattle.runs.proofs.Tests.{all-of-tests}
 
-waits-for : Ready waits
+waits-for : Ready waits × (waits .fifo ≡ emptied)
 unfolding allOpen
 waits-for =
     waits-ready waits
@@ -32,7 +33,7 @@ waits-for =
       free = refl;
     })
 
-seeks-on : Ready seeks
+seeks-on : Ready seeks × (seeks .fifo ≡ emptied)
 unfolding allOpen
 seeks-on =
     waits-ready seeks
@@ -53,19 +54,19 @@ none (suc (suc (suc (suc k)))) p = absurd (omega arith)
 pub answer-runs : AnswerRuns
 unfolding allOpen AllHanded
 answer-runs = record {
-  ready = waits-for;
+  ready = waits-for .0;
   none-busy = none;
-  takes-read = accepts waits .read false false false 0x05 1 1 3 2 9 0x1B 0xFF waits-for none;
-  takes-configure = settings waits .configure 0x00 0x27 0x00 waits-for none;
-  busy-ready = seeks-on;
+  takes-read = accepts waits .read false false false 0x05 1 1 3 2 9 0x1B 0xFF (waits-for .0) none;
+  takes-configure = settings waits .configure 0x00 0x27 0x00 (waits-for .0) none (waits-for .1);
+  busy-ready = seeks-on .0;
   busy = refl;
   whole = refl;
   refuses-read =
-      busy-rule seeks .all-but 0x46 (0 ∷ 0 ∷ 0 ∷ 1 ∷ 1 ∷ 2 ∷ 0x1B ∷ 0xFF ∷ []) 1 seeks-on (omega arith) refl
+      busy-rule seeks .all-but 0x46 (0 ∷ 0 ∷ 0 ∷ 1 ∷ 1 ∷ 2 ∷ 0x1B ∷ 0xFF ∷ []) 1 (seeks-on .0) (omega arith) refl
       (λ e. omega (arith, e)) (λ e. omega (arith, e)) (λ e. omega (arith, e)) refl;
-  refuses-seek = busy-rule seeks .seek 0x01 0x07 seeks-on refl;
+  refuses-seek = busy-rule seeks .seek 0x01 0x07 (seeks-on .0) refl;
   free = refl;
-  takes-seek = accepts seeks .seek 0x00 0x03 seeks-on refl;
+  takes-seek = accepts seeks .seek 0x00 0x03 (seeks-on .0) refl;
   seven = reads-out .reached failed (real-box 0 (given (move 0x46 1 2) (on 1 [])) refl) refl;
   one = reads-out .reached-any versioned (real-box 0 (readied 0x0C ++ command (0x10 ∷ [])) refl) refl .0;
   two = reads-out .reached-any sensed (real-box 0 (readied 0x0C ++ command (0x08 ∷ [])) refl) refl .0;
