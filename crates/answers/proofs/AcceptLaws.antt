@@ -15,7 +15,7 @@ use Rattle.chip.specs.declared.codes.Kind.{Kind}
 use Rattle.chip.specs.declared.codes.Kind.the-variants.{Unknown, ReadData, ReadDeleted, WriteData, WriteDeleted, ReadId}
 use Rattle.chip.specs.declared.codes.Kind.the-variants.{Format, Recalibrate, SenseInterrupt, Specify, SenseDrive, Seek}
 use Rattle.chip.specs.declared.codes.Kind.the-variants.{Version, Configure}
-use Rattle.chip.specs.Commands.{kindOf, bytesOf, entryOf, mtOf, skOf}
+use Rattle.chip.specs.Commands.{kindOf, byteCount, entryOf, mtOf, skOf}
 use Rattle.drive.specs.declared.Motion.{Motion}
 use Rattle.drive.specs.Drive.{accepted, seekOf, recalibrateOf}
 use Rattle.sectors.specs.declared.order.Order.{Order}
@@ -30,7 +30,7 @@ use Rattle.fdc.specs.Answer.{answerOf}
 use Rattle.fdc.specs.Calls.{portOf, writeReg, writePort}
 use Rattle.fdc.specs.Commands.{answeredOf, saidOf, saidTwo, idledOf, specifyOf, configureOf, sensingOf, sensedOf}
 use Rattle.fdc.specs.Commands.{soughtOf, recalibratedOf, moveOrder, formatOrder, identifyOrder, startedOf, ranOf, heedsOf}
-use Rattle.fdc.specs.Commands.{commandByte, ticksOf, runOf, gatheredOf, goesOn, begunOf}
+use Rattle.fdc.specs.Commands.{commandByte, stepTime, runOf, gatheredOf, goesOn, begunOf}
 use Rattle.fdc.specs.Data.{offeredOf, writeFifo}
 use Rattle.fdc.specs.Record.{padded, noBytes, driveAt, validOf, withRegisters, withFifo, withBytes, withDrives}
 use Rattle.fdc.specs.Record.{withDrive, withPhase}
@@ -39,7 +39,7 @@ use Rattle.reached.specs.Runs.{writes, answerTo, after, runCalls}
 use Rattle.fdc.proofs.BeginLaws.{one-more-below}
 use Rattle.fdc.proofs.ValidLaws.{valid-true, true-valid}
 use Rattle.demands.proofs.QuietLaws.{quiet-real}
-use Rattle.answers.specs.Accepts.{Ready, afterBytes, Begun, Moves, readCode, writeCode, Accepts, Refuses, BusyRule}
+use Rattle.answers.specs.Accepts.{Ready, afterBytes, BegunOrder, Moves, readCode, writeCode, Accepts, Refuses, BusyRule}
 use Rattle.answers.specs.Accepts.{Specified, Configured, Settings, WaitsReady}
 use Rattle.answers.specs.CommandResults.{NoneBusy}
 use Rattle.answers.specs.ReadsOut.{SameElse}
@@ -114,7 +114,7 @@ held-valid c entry l n t h =
       count3 = v .count3;
     })
 
-bytes-le : (kind : Kind) → bytesOf kind ≤ 9
+bytes-le : (kind : Kind) → byteCount kind ≤ 9
 bytes-le Unknown = omega arith
 bytes-le ReadData = omega arith
 bytes-le ReadDeleted = omega arith
@@ -181,21 +181,21 @@ module _ (c : Controller) (r : Ready c) where
   unfolding gatheredOf withBytes
   first-held code = refl
 
-  first-more : (code : ℕ) → 1 < bytesOf (kindOf code)
+  first-more : (code : ℕ) → 1 < byteCount (kindOf code)
       → after (writes 5 code) c ≡ heldOf c (Gathering (entryOf code)) (set (replicate 9 0) 0 code) 1
   unfolding begunOf goesOn withPhase entryOf
   first-more code h =
       first-byte code ∙ ap (goesOn (entryOf code)) (first-held code)
-      ∙ rw (lt-ltb 1 (bytesOf (kindOf code)) h)
+      ∙ rw (lt-ltb 1 (byteCount (kindOf code)) h)
 
-  first-last : (code : ℕ) → 1 ≡ bytesOf (kindOf code)
+  first-last : (code : ℕ) → 1 ≡ byteCount (kindOf code)
       → after (writes 5 code) c ≡ runOf (kindOf code) (heldOf c (c .phase) (set (replicate 9 0) 0 code) 1)
   unfolding begunOf goesOn withPhase entryOf
   first-last code h =
       first-byte code ∙ ap (goesOn (entryOf code)) (first-held code)
-      ∙ rw (le-ltb 1 (bytesOf (kindOf code)) (omega arith))
+      ∙ rw (le-ltb 1 (byteCount (kindOf code)) (omega arith))
 
-  complete : (code : ℕ) (rest : List ℕ) → suc (length rest) ≡ bytesOf (kindOf code)
+  complete : (code : ℕ) (rest : List ℕ) → suc (length rest) ≡ byteCount (kindOf code)
       → afterBytes (code ∷ rest) c
       ≡ runOf (kindOf code) (heldOf c Idle (setAll (replicate 9 0) 0 (code ∷ rest)) 0)
   unfolding runCalls entryOf
@@ -208,10 +208,10 @@ module _ (c : Controller) (r : Ready c) where
   abbrev whole : List ℕ → Controller
   whole bytes = heldOf c Idle (setAll (replicate 9 0) 0 bytes) 0
 
-  completes : (code : ℕ) (rest : List ℕ) (kind : Kind) → kindOf code ≡ kind → suc (length rest) ≡ bytesOf kind
+  completes : (code : ℕ) (rest : List ℕ) (kind : Kind) → kindOf code ≡ kind → suc (length rest) ≡ byteCount kind
       → afterBytes (code ∷ rest) c ≡ runOf kind (whole (code ∷ rest))
   completes code rest kind k e =
-      complete code rest (e ∙ sym (ap bytesOf k)) ∙ ap (λ (x : Kind). runOf x (whole (code ∷ rest))) k
+      complete code rest (e ∙ sym (ap byteCount k)) ∙ ap (λ (x : Kind). runOf x (whole (code ∷ rest))) k
 
 -- a list of nine
 nine : (l : List ℕ) (P : List ℕ → Type 0) → length l ≡ 9
@@ -237,7 +237,7 @@ run-busy : (kind : Kind) (e : Controller) → anyBusy (e .drives) ≡ true → h
 unfolding runOf
 run-busy kind e b h = rw (b, h)
 
-begun-by : (c : Controller) (l : List ℕ) (order : Order) → Begun c (startedOf order (heldOf c Idle l 0)) order
+begun-by : (c : Controller) (l : List ℕ) (order : Order) → BegunOrder c (startedOf order (heldOf c Idle l 0)) order
 unfolding startedOf withPhase idledOf
 begun-by c l order = record {
   starts = refl;
@@ -290,14 +290,14 @@ recalibrates-not e b = simp (and-false, b)
 seeks-free : (e : Controller) → driveAt (commandByte 1 e % 4) (e .drives) .busy ≡ false
     → runOf Seek e
     ≡ idledOf (withDrive (commandByte 1 e % 4)
-    (seekOf (commandByte 2 e) (ticksOf e) (driveAt (commandByte 1 e % 4) (e .drives))) e)
+    (seekOf (commandByte 2 e) (stepTime e) (driveAt (commandByte 1 e % 4) (e .drives))) e)
 unfolding runOf ranOf soughtOf
 seeks-free e b = simp (and-false, b)
 
 recalibrates-free : (e : Controller) → driveAt (commandByte 1 e % 4) (e .drives) .busy ≡ false
     → runOf Recalibrate e
     ≡ idledOf (withDrive (commandByte 1 e % 4)
-    (recalibrateOf (commandByte 1 e % 4) (ticksOf e) (driveAt (commandByte 1 e % 4) (e .drives))) e)
+    (recalibrateOf (commandByte 1 e % 4) (stepTime e) (driveAt (commandByte 1 e % 4) (e .drives))) e)
 unfolding runOf ranOf recalibratedOf
 recalibrates-free e b = simp (and-false, b)
 
@@ -327,17 +327,17 @@ moveOf unit cc hh rr nn eot pass deleted mt sk =
 module _ (c : Controller) (r : Ready c) (n : NoneBusy c) where
   -- a data command, Read ID or Format
   begins : (code : ℕ) (rest : List ℕ) (kind : Kind) (order : Order) → kindOf code ≡ kind
-      → suc (length rest) ≡ bytesOf kind
+      → suc (length rest) ≡ byteCount kind
       → ranOf kind (whole c r (code ∷ rest)) ≡ startedOf order (whole c r (code ∷ rest))
-      → Begun c (afterBytes (code ∷ rest) c) order
+      → BegunOrder c (afterBytes (code ∷ rest) c) order
   begins code rest kind order k e o =
       rw (completes c r code rest kind k e ∙ run-free kind _ (none-busy (c .drives) n) ∙ o) (begun-by c _ order)
 
   moves : (code unit cc hh rr nn eot gpl dtl : ℕ) (kind : Kind) (pass : Pass) (deleted mt sk : Bool)
-      → kindOf code ≡ kind → 9 ≡ bytesOf kind
+      → kindOf code ≡ kind → 9 ≡ byteCount kind
       → ((e : Controller) → ranOf kind e ≡ startedOf (moveOrder (e .bytes .command) pass deleted) e)
       → mtOf code ≡ mt → skOf code ≡ sk
-      → Begun c (afterBytes (code ∷ unit ∷ cc ∷ hh ∷ rr ∷ nn ∷ eot ∷ gpl ∷ dtl ∷ []) c)
+      → BegunOrder c (afterBytes (code ∷ unit ∷ cc ∷ hh ∷ rr ∷ nn ∷ eot ∷ gpl ∷ dtl ∷ []) c)
       (moveOf unit cc hh rr nn eot pass deleted mt sk)
   unfolding moveOrder
   moves code unit cc hh rr nn eot gpl dtl kind pass deleted mt sk k b o m s =
@@ -352,7 +352,7 @@ module _ (c : Controller) (r : Ready c) (n : NoneBusy c) where
       (λ x0 x1 x2 x3 x4 x5 x6 x7 x8. λ i. moveOf unit cc hh rr nn eot pass deleted (m i) (s i))))
 
   formats : (unit nn sc gpl d : ℕ)
-      → Begun c (afterBytes (0x4D ∷ unit ∷ nn ∷ sc ∷ gpl ∷ d ∷ []) c)
+      → BegunOrder c (afterBytes (0x4D ∷ unit ∷ nn ∷ sc ∷ gpl ∷ d ∷ []) c)
       (record { drive = unit % 4; side = unit / 4 % 2; job = job.Format (record { n = nn; sc = sc; fill = d }) })
   unfolding kindOf ranOf formatOrder
   formats unit nn sc gpl d =
@@ -365,7 +365,7 @@ module _ (c : Controller) (r : Ready c) (n : NoneBusy c) where
       refl (λ x0 x1 x2 x3 x4 x5 x6 x7 x8. refl)))
 
   identifies : (unit : ℕ)
-      → Begun c (afterBytes (0x4A ∷ unit ∷ []) c)
+      → BegunOrder c (afterBytes (0x4A ∷ unit ∷ []) c)
       (record { drive = unit % 4; side = unit / 4 % 2; job = Identify })
   unfolding kindOf ranOf identifyOrder
   identifies unit =
@@ -466,7 +466,7 @@ accepts c = record {
 }
   where
     reads-by : (deleted mt sk : Bool) (unit cc hh rr nn eot gpl dtl : ℕ) → Ready c → NoneBusy c
-        → Begun c (afterBytes (readCode deleted mt sk ∷ unit ∷ cc ∷ hh ∷ rr ∷ nn ∷ eot ∷ gpl ∷ dtl ∷ []) c)
+        → BegunOrder c (afterBytes (readCode deleted mt sk ∷ unit ∷ cc ∷ hh ∷ rr ∷ nn ∷ eot ∷ gpl ∷ dtl ∷ []) c)
         (moveOf unit cc hh rr nn eot Read deleted mt sk)
     reads-by false false false u cc h rr n e g d r b =
         moves c r b 0x46 u cc h rr n e g d ReadData Read false false false refl refl (λ e. refl) refl refl
@@ -486,7 +486,7 @@ accepts c = record {
         moves c r b 0xEC u cc h rr n e g d ReadDeleted Read true true true refl refl (λ e. refl) refl refl
 
     writes-by : (deleted mt : Bool) (unit cc hh rr nn eot gpl dtl : ℕ) → Ready c → NoneBusy c
-        → Begun c (afterBytes (writeCode deleted mt ∷ unit ∷ cc ∷ hh ∷ rr ∷ nn ∷ eot ∷ gpl ∷ dtl ∷ []) c)
+        → BegunOrder c (afterBytes (writeCode deleted mt ∷ unit ∷ cc ∷ hh ∷ rr ∷ nn ∷ eot ∷ gpl ∷ dtl ∷ []) c)
         (moveOf unit cc hh rr nn eot Write deleted mt false)
     writes-by false false u cc h rr n e g d r b =
         moves c r b 0x45 u cc h rr n e g d WriteData Write false false false refl refl (λ e. refl) refl refl

@@ -7,7 +7,7 @@ use Rattle.fdc.specs.declared.record.Controller.{Controller}
 use Rattle.reached.specs.Runs.{Call, powers, reads, writes, takes, gives, ticks, notes, Reached}
 use Rattle.reached.proofs.GoodLaws.{reached-never-4}
 use Rattle.fdc.proofs.AnswerLaws.{only-one}
-use Rattle.answers.specs.Answers.{Outcome, OneAnswer, NeverFour}
+use Rattle.answers.specs.Answers.{AnswerMade, OneAnswer, NeverFour}
 use Rattle.answers.specs.Refusals.{Fault, Damaged, Row, Given}
 use Rattle.demands.specs.Work.{Real}
 use Rattle.answers.proofs.RefusalLaws.{valid-no-fault, refused-exactly}
@@ -19,7 +19,7 @@ one-answer call c a b o p x y =
     let second : o .second ≡ p .second = only-one (x .second) (y .second) in
     go o p answer first second
   where
-    go : (o p : Outcome) → o .answer ≡ p .answer → o .first ≡ p .first → o .second ≡ p .second → o ≡ p
+    go : (o p : AnswerMade) → o .answer ≡ p .answer → o .first ≡ p .first → o .second ≡ p .second → o ≡ p
     go o p e f g = λ i. record { answer = e i; first = f i; second = g i }
 
 -- a record that the demands speak of is reached

@@ -18,11 +18,11 @@ use Rattle.drive.specs.declared.Motion.{Motion}
 use Rattle.drive.specs.declared.Motion.the-variants.{Still, Seeking, Recalibrating}
 use Rattle.drive.specs.Drive.{notedOf}
 use Rattle.drive.specs.Step.{stepped, sought, recalibrated, seekTick, recalibrateTick, tickIn, onTick}
-use Rattle.drive.specs.Step.{tickOf as tickDrive}
+use Rattle.drive.specs.Step.{tickDrive}
 use Rattle.fdc.specs.declared.record.Controller.{Controller}
 use Rattle.fdc.specs.Answer.{answerOf}
 use Rattle.fdc.specs.Calls.{noteChange}
-use Rattle.fdc.specs.Commands.{ticksOf}
+use Rattle.fdc.specs.Commands.{stepTime}
 use Rattle.fdc.specs.Record.{driveAt, withDrives, withDrive}
 use Rattle.reached.specs.Runs.{answerTo, ticks, notes, after}
 use Rattle.fdc.specs.Ticks.{seenOf, presentIn, tickAll, steppedOf, decideOf, ruledOf, tickOf}
@@ -103,7 +103,7 @@ module _ (c : Controller) (u : Undamaged c) (f : Free c) (a b : List ℕ) where
 
   drive-after : (k : ℕ) → k < 2
       → driveAt k (after (ticks a b) c .drives)
-      ≡ tickDrive k (presentIn (seenOf (c .registers .dor) k (pickOf k a b))) (ticksOf c) (driveAt k (c .drives))
+      ≡ tickDrive k (presentIn (seenOf (c .registers .dor) k (pickOf k a b))) (stepTime c) (driveAt k (c .drives))
   unfolding steppedOf withDrives tickAll
   drive-after zero l = rw drives-after refl
   drive-after (suc zero) l = rw drives-after refl
@@ -161,12 +161,12 @@ change-flag c = record {
   note = noted c;
   cleared = λ a b k g u f l due seen.
       ap (λ (d : Drive). d .changed) (drive-after c u f a b k l)
-      ∙ step-clears _ k _ (ticksOf c) (driveAt k (c .drives)) due
+      ∙ step-clears _ k _ (stepTime c) (driveAt k (c .drives)) due
       ∙ rw seen (and-false (driveAt k (c .drives) .changed));
   empty = λ a b k u f l seen.
       ap (λ (d : Drive). d .changed) (drive-after c u f a b k l)
-      ∙ rw seen (empty-keeps (driveAt k (c .drives) .motion) k (ticksOf c) (driveAt k (c .drives)));
+      ∙ rw seen (empty-keeps (driveAt k (c .drives) .motion) k (stepTime c) (driveAt k (c .drives)));
   no-step = λ a b k u f l n.
       ap (λ (d : Drive). d .changed) (drive-after c u f a b k l)
-      ∙ still-keeps _ k _ (ticksOf c) (driveAt k (c .drives)) n;
+      ∙ still-keeps _ k _ (stepTime c) (driveAt k (c .drives)) n;
 }

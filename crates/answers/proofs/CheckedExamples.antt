@@ -4,12 +4,12 @@ use Prim.Native.Nat.{ℕ}
 use native.Mathlib.Omega.{arith}
 use mathlib.Core.List.{[], _∷_, _++_}
 use mathlib.Core.Path.{refl}
-use Rattle.drive.specs.Drive.{fresh}
+use Rattle.drive.specs.Drive.{freshDrive}
 use Rattle.reached.specs.Examples.{command, readied}
 use Rattle.reached.specs.Runs.{Reached}
-use Rattle.image.proofs.Examples.{examples as image-examples}
-use Rattle.chip.proofs.Examples.{checked-examples as chip-examples}
-use Rattle.reached.proofs.Examples.{examples as fdc-examples}
+use Rattle.image.proofs.Examples.{image-examples}
+use Rattle.chip.proofs.Examples.{chip-examples}
+use Rattle.reached.proofs.Examples.{fdc-examples}
 use Rattle.reached.proofs.Open.{callsOpen}
 use Rattle.reached.proofs.SeekLaws.{recalibrate-on-time}
 use Rattle.reached.proofs.Whole.{cut-whole}
@@ -51,7 +51,7 @@ checked-examples = record {
     from-79 : Recalibrated 79 0x20 0
     from-79 =
         let law =
-        recalibrate-on-time 0 (omega arith) (recalibrates 79) (reached 79) (omega arith) refl (fresh 79) refl in
+        recalibrate-on-time 0 (omega arith) (recalibrates 79) (reached 79) (omega arith) refl (freshDrive 79) refl in
         record {
           reports = λ calls calm n a b. law .last calls calm n a b .report-is;
           stands = λ calls calm n a b. law .last calls calm n a b .head;
@@ -60,7 +60,7 @@ checked-examples = record {
     from-80 : Recalibrated 80 0x70 1
     from-80 =
         let law =
-        recalibrate-on-time 0 (omega arith) (recalibrates 80) (reached 80) (omega arith) refl (fresh 80) refl in
+        recalibrate-on-time 0 (omega arith) (recalibrates 80) (reached 80) (omega arith) refl (freshDrive 80) refl in
         record {
           reports = λ calls calm n a b. law .last calls calm n a b .report-is;
           stands = λ calls calm n a b. law .last calls calm n a b .head;

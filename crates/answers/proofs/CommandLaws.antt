@@ -12,10 +12,10 @@ use borrow.Author.Tests.{eq-eqb, ne-eqb}
 use Rattle.image.proofs.TestLaws.{by-test}
 use Rattle.chip.specs.declared.codes.Kind.{Kind}
 use Rattle.chip.specs.declared.codes.Kind.the-variants.{Unknown, SenseInterrupt, Version}
-use Rattle.chip.specs.Commands.{kindOf, bytesOf, entryOf}
+use Rattle.chip.specs.Commands.{kindOf, byteCount, entryOf}
 use Rattle.chip.specs.Fifo.{emptied}
 use Rattle.drive.specs.declared.Drive.{Drive}
-use Rattle.drive.specs.Drive.{sensedOf as sensedDrive}
+use Rattle.drive.specs.Drive.{sensedDrive}
 use Rattle.image.specs.Lent.{pickOf}
 use Rattle.fdc.specs.declared.record.Controller.{Controller}
 use Rattle.fdc.specs.declared.record.Phase.{Phase}
@@ -65,7 +65,7 @@ module _ (c : Controller) (w : Waits c) where
   none-held = (rw (w .idle) at (good .phase)) .1
 
   -- a command of one byte is complete at once
-  begun-one : (code : ℕ) (kind : Kind) → kindOf code ≡ kind → bytesOf kind ≡ 1
+  begun-one : (code : ℕ) (kind : Kind) → kindOf code ≡ kind → byteCount kind ≡ 1
       → begunOf code c ≡ runOf kind (gatheredOf code (cleared c))
   unfolding begunOf goesOn entryOf gatheredOf withBytes
   begun-one code kind e b =

@@ -26,7 +26,7 @@ use Rattle.sectors.specs.declared.work.Work.{Work}
 use Rattle.sectors.specs.declared.work.Work.the-variants.{Moving}
 use Rattle.sectors.specs.Follow.{freshAt, withId, onSide, followedOf, followOf}
 use Rattle.sectors.specs.Result.{endOf, moveEnd, moveFails, movesOf}
-use Rattle.engine.specs.Step.{stageOf, workOf}
+use Rattle.engine.specs.Step.{stageOf, workStep}
 use Rattle.sectors.specs.Track.{markPlace, dataPlace, nextSlot}
 use Rattle.sectors.specs.Write.{underrun, putOf, dryOf, storeOf}
 use Rattle.engine.proofs.EasyLaws.{follow-normal-had-tc}
@@ -54,7 +54,7 @@ module _ (c : Controller) (site : Site) (task : Task) (a b : List ℕ) (stage : 
       → after (ticks a b) c
       ≡ settledOf (followOf slot tc site work (c .fifo) effect .then)
       (followOf slot tc site work (c .fifo) effect .fifo) c
-  unfolding workOf decidedOf
+  unfolding workStep decidedOf
   followed tc d slot effect work e =
       after-tick a b c ∙ ap (λ (x : Decision). x .controller) (later-is c a b (Moving site task stage) _ d e)
 
@@ -176,7 +176,7 @@ mark-waits : (c : Controller) (site : Site) (task : Task) (a b : List ℕ) (slot
     → During c (Moving site task (Storing slot done)) a b → done < sizeOf (site .disk .n) → (k : ℕ) (img : List ℕ)
     → getD (imageAfter k a b c img) (offsetOf (site .disk) (headAt (site .drive) c) (site .side) slot) 0
     ≡ getD img (offsetOf (site .disk) (headAt (site .drive) c) (site .side) slot) 0
-unfolding imageAfter decidedOf workOf stageOf markPlace
+unfolding imageAfter decidedOf workStep stageOf markPlace
 mark-waits c site task a b slot done d h k img =
     rw (later-is c a b (Moving site task (Storing slot done)) _ d refl)
     (kept-store site task (headAt (site .drive) c) slot done (site .drive) k img (c .fifo) (c .registers .efifo)

@@ -34,7 +34,7 @@ use Rattle.sectors.specs.declared.work.Step.{Step}
 use Rattle.sectors.specs.declared.work.Then.{Then}
 use Rattle.sectors.specs.declared.work.Then.the-variants.{Ends, Works}
 use Rattle.engine.specs.First.{changes, misplanned, gateOf, beginOf, enteredOf, movingOf}
-use Rattle.engine.specs.First.{startOf as startJob, writes as passes}
+use Rattle.engine.specs.First.{startJob, passWrites}
 use Rattle.engine.specs.Kept.{suited, thenSuited, thenFlow}
 use Rattle.engine.specs.Step.{siteOf, driveOf, flowOf, fromHost, goOnOf}
 use Rattle.engine.proofs.KeptLaws.{begin-kept, go-on-kept}
@@ -104,7 +104,7 @@ together (Works work) g h s p u = record { suits = s; slots = rw (p .0) h; prope
 
 -- the first tick
 moving-unlocked : (p : Pass) (transfer : Transfer) (id : Id) (site : Site) (fifo : Fifo) → transfer .pass ≡ p
-    → (passes p && site .disk .protect) ≡ false → ThenUnlocked (movingOf p transfer id site fifo .then)
+    → (passWrites p && site .disk .protect) ≡ false → ThenUnlocked (movingOf p transfer id site fifo .then)
 unfolding movingOf
 moving-unlocked Read transfer id site fifo e b = λ h. absurd (false≢true (rw e at h))
 moving-unlocked Write transfer id site fifo e b = λ h. b

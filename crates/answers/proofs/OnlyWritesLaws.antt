@@ -24,7 +24,7 @@ use Rattle.image.specs.declared.slot.Id.{Id}
 use Rattle.sectors.specs.Result.{endOf}
 use Rattle.sectors.specs.Track.{hasTrack}
 use Rattle.engine.specs.First.{changes, misplanned, gateOf, beginOf, enteredOf, movingOf}
-use Rattle.engine.specs.First.{startOf as startJob}
+use Rattle.engine.specs.First.{startJob}
 use Rattle.engine.specs.Step.{passFlow, fromHost, flowOf, driveOf}
 use Rattle.engine.proofs.KeptLaws.{go-on-kept}
 use Rattle.fdc.specs.declared.record.Controller.{Controller}
@@ -33,7 +33,7 @@ use Rattle.fdc.specs.declared.record.Phase.the-variants.{Idle, Gathering, Start
 use Rattle.fdc.specs.declared.ticks.Decision.{Decision}
 use Rattle.fdc.specs.Record.{driveAt, validOf}
 use Rattle.fdc.specs.Registers.{heldIn}
-use Rattle.fdc.specs.Ticks.{seenOf, steppedOf, stillOf, decidedOf, startOf, workOf, decideIn, decideOf, ruledOf}
+use Rattle.fdc.specs.Ticks.{seenOf, steppedOf, stillOf, decidedOf, startTick, workTick, decideIn, decideOf, ruledOf}
 use Rattle.fdc.specs.Ticks.{imageAfter}
 use Rattle.answers.specs.OnlyWrites.{Changes, Storing, suitedIn, OnlyWrites}
 use Rattle.answers.proofs.FitLaws.{fit-suited, fit-real}
@@ -79,7 +79,7 @@ not-from (Formatting site plan form) n = absurd (n tt)
 
 in-phase : (p : Phase) (a b : List ℕ) (c : Controller) → suitedIn p ≡ true → (Storing p → ⊥)
     → decideIn p a b c .effect ≡ Nothing
-unfolding decideIn stillOf startOf workOf decidedOf
+unfolding decideIn stillOf startTick workTick decidedOf
 in-phase Idle a b c s n = refl
 in-phase (Gathering entry) a b c s n = refl
 in-phase (Starting order) a b c s n = begin-nothing order _ _ (c .fifo)

@@ -14,7 +14,7 @@ use Rattle.chip.specs.declared.refusal.Refusal.the-variants as refusal
 use Rattle.chip.specs.Refusals.{numberOf}
 use Rattle.chip.specs.Fifo.{capacityOf}
 use Rattle.drive.specs.declared.Drive.{Drive}
-use Rattle.drive.specs.Drive.{waitOf as countdownOf}
+use Rattle.drive.specs.Drive.{countdownOf}
 use Rattle.engine.specs.declared.flow.Flow.{Flow}
 use Rattle.engine.specs.declared.flow.Flow.the-variants.{Quiet, ToHost, FromHost}
 use Rattle.engine.specs.Step.{toHost, fromHost, flowOf}

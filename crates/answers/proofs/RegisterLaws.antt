@@ -31,8 +31,8 @@ use Rattle.reached.proofs.GoodLaws.{good-valid, good-after, good-reached}
 use Rattle.answers.specs.Registers.{Undamaged, Held, Free, GateOn, Dma, NonDma, readsAs, Shows, MsrByPhase}
 use Rattle.answers.specs.Registers.{MovesBytes}
 use Rattle.answers.specs.Registers.{Requests, asks-for, Interrupts, of-report, of-result, of-request, Lines}
-use Rattle.answers.specs.Registers.{ReadBack}
-use Rattle.answers.specs.Registers.{driveIn, MotorOn, Dir, PowerOn, PowerOnValues}
+use Rattle.answers.specs.Registers.{RegistersBack}
+use Rattle.answers.specs.Registers.{driveSelected, MotorOn, Dir, PowerOn, PowerOnValues}
 use Rattle.demands.specs.Work.{Real}
 use Rattle.answers.proofs.Answers.{real-reached}
 use Rattle.answers.proofs.RefusalLaws.{below, invalid-fault, valid-no-fault, busy-le, refused-exactly}
@@ -317,7 +317,7 @@ reads-tdr : (e : Controller) → validOf e ≡ true → readsAs 3 e ≡ e .regis
 unfolding answerTo readPort portOf readReg answerOf
 reads-tdr e t = rw t
 
-pub read-back : ReadBack
+pub read-back : RegistersBack
 read-back = record {
   dor = λ c byte r.
       reads-dor (after (writes 2 byte) c) (after-valid (writes 2 byte) c r)
@@ -333,21 +333,21 @@ module _ (c : Controller) where
   unfolding answerTo readPort portOf readReg answerOf
   reads-dir u = rw (undamaged-valid c u)
 
-  dir-changed : MotorOn c → (2 ≤ driveIn c) ⊎ (driveAt (driveIn c) (c .drives) .changed ≡ true) → dirOf c ≡ 0x80
+  dir-changed : MotorOn c → (2 ≤ driveSelected c) ⊎ (driveAt (driveSelected c) (c .drives) .changed ≡ true) → dirOf c ≡ 0x80
   unfolding dirOf motorIn
-  dir-changed m (inl h) = rw (eq-eqb (c .registers .dor / 2 ^ (4 + driveIn c) % 2) 1 m, le-leb 2 (driveIn c) h)
-  dir-changed m (inr h) = simp (eq-eqb (c .registers .dor / 2 ^ (4 + driveIn c) % 2) 1 m, h, or-true)
+  dir-changed m (inl h) = rw (eq-eqb (c .registers .dor / 2 ^ (4 + driveSelected c) % 2) 1 m, le-leb 2 (driveSelected c) h)
+  dir-changed m (inr h) = simp (eq-eqb (c .registers .dor / 2 ^ (4 + driveSelected c) % 2) 1 m, h, or-true)
 
-  dir-unchanged : driveIn c < 2 → driveAt (driveIn c) (c .drives) .changed ≡ false → dirOf c ≡ 0x00
+  dir-unchanged : driveSelected c < 2 → driveAt (driveSelected c) (c .drives) .changed ≡ false → dirOf c ≡ 0x00
   unfolding dirOf
   dir-unchanged h e =
-      simp (lt-leb 2 (driveIn c) h, e)
+      simp (lt-leb 2 (driveSelected c) h, e)
       (by-test (motorIn (c .registers .dor) (c .registers .dor) && false) (λ (n : ℕ). n ≡ 0) _ _
       (λ t. absurd (false≢true (both (motorIn (c .registers .dor) (c .registers .dor)) _ t .1))) (λ _. refl))
 
   dir-off : (MotorOn c → ⊥) → dirOf c ≡ 0x00
   unfolding dirOf motorIn
-  dir-off n = rw (ne-eqb (c .registers .dor / 2 ^ (4 + driveIn c) % 2) 1 n)
+  dir-off n = rw (ne-eqb (c .registers .dor / 2 ^ (4 + driveSelected c) % 2) 1 n)
 
   pub dir : Dir c
   dir = record {

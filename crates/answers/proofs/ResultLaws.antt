@@ -36,7 +36,7 @@ use Rattle.engine.specs.ReadId.{noIdOf, noIdHere, idHere, identifiedOf, identif
 use Rattle.sectors.specs.Result.{st0Of, otherBit, endOf, moveEnd, moveFails}
 use Rattle.sectors.specs.Search.{matches, noted, cylinderBits, withOther, notFound, missedOf, readFound, dataFound}
 use Rattle.sectors.specs.Search.{secondPass, bareFound, lookedOf, searchOf}
-use Rattle.engine.specs.Step.{driveOf, siteOf, lostOf, stageOf, workOf, goOnOf}
+use Rattle.engine.specs.Step.{driveOf, siteOf, lostOf, stageOf, workStep, goOnOf}
 use Rattle.sectors.specs.Track.{hasTrack, staysOf, markPlace}
 use Rattle.sectors.specs.Write.{underrun, awaitOf, dryOf, writtenOf, storeOf, writtenMark}
 use Rattle.image.specs.declared.disk.Disk.{Disk}
@@ -59,10 +59,10 @@ use Rattle.reached.specs.Runs.{ticks, after}
 use Rattle.fdc.specs.Ticks.{settledOf, decidedOf, ruledOf}
 use Rattle.answers.specs.Results as results
 use Rattle.answers.specs.Results.{Result, diskOf, headAt, NoTrack, OnTrack, zeros, formattedId, Before, firstId}
-use Rattle.answers.specs.Results.{Changes}
-use Rattle.answers.specs.Results.{Misplanned, FirstEnds, During, slotIn, marked, Sought, HasId}
+use Rattle.answers.specs.Results.{ChangesJob}
+use Rattle.answers.specs.Results.{Misplanned, FirstEnds, During, slotIn, slotMark, Sought, HasId}
 use Rattle.answers.specs.Results.{SecondPass}
-use Rattle.answers.specs.Results.{Fails, SearchEnds, ReadEnds, WriteEnds, AtNext, nextId, NextEnds, ReadIdEnds}
+use Rattle.answers.specs.Results.{FailsWith, SearchEnds, ReadEnds, WriteEnds, AtNext, nextId, EndsByNext, ReadIdEnds}
 use Rattle.answers.specs.Results.{FormatEnds, Lost, LostEnds, ResultBytes}
 use Rattle.demands.specs.Work.{Real}
 use Rattle.demands.proofs.CallLaws.{tick-starts, tick-works, after-tick}
@@ -114,7 +114,7 @@ module _ (c : Controller) (a b : List ℕ) where
       ∙ rw (e, s)
 
   pub later-is : (work : Work) (step : Step) → During c work a b
-      → workOf work (headAt (driveOf work) c) (pickOf (driveOf work) a b) (c .fifo) (c .registers .efifo)
+      → workStep work (headAt (driveOf work) c) (pickOf (driveOf work) a b) (c .fifo) (c .registers .efifo)
       (c .registers .fifothr) ≡ step
       → ruledOf a b c ≡ decidedOf (driveOf work) step c
   unfolding goOnOf staysOf
@@ -138,7 +138,7 @@ on-track-true : (g : Geometry) (head side : ℕ) → OnTrack g head side → has
 unfolding hasTrack
 on-track-true g head side (h, k) = rw (lt-ltb head (g .cylinders) h, lt-ltb side (g .heads) k)
 
-changes-true : (job : Job) → Changes job → changes job ≡ true
+changes-true : (job : Job) → ChangesJob job → changes job ≡ true
 changes-true Identify h = absurd h
 changes-true (Move transfer id) h = rw h
 changes-true (Format plan) h = refl
@@ -170,7 +170,7 @@ module _ (order : Order) (head : ℕ) (fifo : Fifo) where
     begin-no-track h =
         rw (no-track-false g head (order .side) h, given-first (order .job) (order .drive) (order .side) head)
 
-    begin-protected : OnTrack g head (order .side) → Changes (order .job) → g .protect ≡ true
+    begin-protected : OnTrack g head (order .side) → ChangesJob (order .job) → g .protect ≡ true
         → beginOf order (Present g) head fifo ≡ failsAt order head 0x02
     unfolding beginOf gateOf enteredOf
     begin-protected h w p =
@@ -280,12 +280,12 @@ module _ (c : Controller) (site : Site) (task : Task) (a b : List ℕ) where
       → During c (Moving site task stage) a b
       → staged c site task a b stage ≡ endOf normal (site .drive) (site .side) st1 st2 id effect
       → Result (after (ticks a b) c) (st0Of normal (site .drive) (site .side)) st1 st2 id
-  unfolding workOf
+  unfolding workStep
   ends-by stage normal st1 st2 id effect during e =
       result c a b (site .drive) normal _ _ _ _ _ _ (later-is c a b (Moving site task stage) _ during e)
 
   fails-by : (stage : Stage) (st1 st2 : ℕ) → During c (Moving site task stage) a b
-      → staged c site task a b stage ≡ failing st1 st2 site task → Fails st1 st2 c site task a b
+      → staged c site task a b stage ≡ failing st1 st2 site task → FailsWith st1 st2 c site task a b
   fails-by stage st1 st2 during e = ends-by stage false st1 _ (task .id) Nothing during e
 
   -- the slot looked at
@@ -293,23 +293,23 @@ module _ (c : Controller) (site : Site) (task : Task) (a b : List ℕ) where
   slotHere look = slotIn c site a b (look .slot)
 
   module _ (look : Search) where
-    searched : (m : Mark) → marked (slotHere look) ≡ m
+    searched : (m : Mark) → slotMark (slotHere look) ≡ m
         → staged c site task a b (Searching look) ≡ lookedOf m (slotHere look .id) look site task (c .fifo)
     unfolding stageOf searchOf
     searched m e = rw e
 
-    no-id : SecondPass (look .slot) (look .passes) site → marked (slotHere look) ≡ NoId → look .met ≡ false
+    no-id : SecondPass (look .slot) (look .passes) site → slotMark (slotHere look) ≡ NoId → look .met ≡ false
         → staged c site task a b (Searching look) ≡ failing 0x01 0x00 site task
     unfolding lookedOf
     no-id p m n = searched NoId m ∙ missed-none site task look (c .fifo) p n
 
-    others-met : SecondPass (look .slot) (look .passes) site → marked (slotHere look) ≡ NoId → look .met ≡ true
+    others-met : SecondPass (look .slot) (look .passes) site → slotMark (slotHere look) ≡ NoId → look .met ≡ true
         → staged c site task a b (Searching look)
         ≡ failing 0x04 (cylinderBits (look .wrong) (look .bad)) site task
     unfolding lookedOf
     others-met p m n = searched NoId m ∙ missed-met site task look (c .fifo) p n
 
-    other-id : SecondPass (look .slot) (look .passes) site → HasId (marked (slotHere look))
+    other-id : SecondPass (look .slot) (look .passes) site → HasId (slotMark (slotHere look))
         → (Sought (slotHere look) site task → ⊥)
         → staged c site task a b (Searching look)
         ≡ failing 0x04
@@ -318,10 +318,10 @@ module _ (c : Controller) (site : Site) (task : Task) (a b : List ℕ) where
         site task
     other-id p h n =
         searched _ refl
-        ∙ missed-other site task (marked (slotHere look)) (slotHere look .id) look (c .fifo) h
+        ∙ missed-other site task (slotMark (slotHere look)) (slotHere look .id) look (c .fifo) h
         (cannot _ (λ t. n (true-sought (slotHere look) site task t))) p
 
-    no-data : task .transfer .pass ≡ Read → marked (slotHere look) ≡ NoData → Sought (slotHere look) site task
+    no-data : task .transfer .pass ≡ Read → slotMark (slotHere look) ≡ NoData → Sought (slotHere look) site task
         → staged c site task a b (Searching look) ≡ failing 0x01 0x01 site task
     unfolding lookedOf bareFound moveFails moveEnd
     no-data r m w = searched NoData m ∙ rw (sought-true (slotHere look) site task w, r)
@@ -438,7 +438,7 @@ module _ (c : Controller) (site : Site) (task : Task) (a b : List ℕ) where
       follows (look .slot) Nothing (withOther true task) refl refl (other-true (task .other) ∙ sym o)
       (rw (e, m, sought-true (slotHere look) site task w, r, beq-false deleted (task .transfer .deleted) n, k, t))
 
-  next-ends : NextEnds c site task a b
+  next-ends : EndsByNext c site task a b
   next-ends = record {
     by-tc = λ stage other d n. go-tc stage other d (at-next stage true other n);
     past-eot = λ stage other d n e m. go-eot stage other d e m (at-next stage false other n);
@@ -476,11 +476,11 @@ module _ (c : Controller) (site : Site) (a b : List ℕ) where
   unfolding identifiedOf noIdHere noIdOf
   none-is id slot passes fifo p = rw (second-true slot passes site p)
 
-  identified : (slot passes : ℕ) (m : Mark) (step : Step) → marked (slotIn c site a b slot) ≡ m
+  identified : (slot passes : ℕ) (m : Mark) (step : Step) → slotMark (slotIn c site a b slot) ≡ m
       → identifiedOf m (slotIn c site a b slot .id) slot passes site (c .fifo) ≡ step
-      → workOf (Identifying site slot passes) (headAt (site .drive) c) (pickOf (site .drive) a b) (c .fifo)
+      → workStep (Identifying site slot passes) (headAt (site .drive) c) (pickOf (site .drive) a b) (c .fifo)
       (c .registers .efifo) (c .registers .fifothr) ≡ step
-  unfolding workOf identifyOf
+  unfolding workStep identifyOf
   identified slot passes m step e s = rw e s
 
   read-id-ends : ReadIdEnds c site a b
@@ -497,7 +497,7 @@ module _ (c : Controller) (site : Site) (a b : List ℕ) where
 module _ (c : Controller) (site : Site) (plan : Plan) (a b : List ℕ) where
   abbrev formed : Form → Step
   formed f =
-      workOf (Formatting site plan f) (headAt (site .drive) c) (pickOf (site .drive) a b) (c .fifo)
+      workStep (Formatting site plan f) (headAt (site .drive) c) (pickOf (site .drive) a b) (c .fifo)
       (c .registers .efifo) (c .registers .fifothr)
 
   abbrev endAt : Bool → ℕ → ℕ → Effect → Step
@@ -507,11 +507,11 @@ module _ (c : Controller) (site : Site) (plan : Plan) (a b : List ℕ) where
 
   form-await : (slot wait : ℕ) → c .fifo .count ≡ 0 → 63 ≤ wait
       → formed (form.Awaiting slot wait) ≡ endAt false 0x10 slot Nothing
-  unfolding workOf formOf formAwait formatEnd
+  unfolding workStep formOf formAwait formatEnd
   form-await slot wait h l = rw (eq-eqb (c .fifo .count) 0 h, le-leb 63 wait l)
 
   form-missing : (slot k : ℕ) → c .fifo .count ≡ 0 → formed (form.Addressing slot k) ≡ endAt false 0x10 slot Nothing
-  unfolding workOf formOf addressOf formatEnd
+  unfolding workStep formOf addressOf formatEnd
   form-missing slot k h = rw (eq-eqb (c .fifo .count) 0 h)
 
   clears : (slot : ℕ) (effect : Effect) → site .disk .slots ≤ slot + 1
@@ -522,14 +522,14 @@ module _ (c : Controller) (site : Site) (plan : Plan) (a b : List ℕ) where
   form-filled : (slot done : ℕ) → sizeOf (site .disk .n) ≤ done → plan .sc ≤ slot + 1 → site .disk .slots ≤ slot + 1
       → formed (form.Filling slot done)
       ≡ endAt true 0x00 (plan .sc) (Store (markPlace site (headAt (site .drive) c) slot) (byteOf (Data false false)))
-  unfolding workOf formOf fillOf formedOf
+  unfolding workStep formOf fillOf formedOf
   form-filled slot done h k l =
       rw (le-leb (sizeOf (site .disk .n)) done h, le-ltb (slot + 1) (plan .sc) k) (clears slot _ l)
 
   form-cleared : (slot : ℕ) → site .disk .slots ≤ slot + 1
       → formed (form.Clearing slot)
       ≡ endAt true 0x00 (plan .sc) (Store (markPlace site (headAt (site .drive) c) slot) (byteOf NoId))
-  unfolding workOf formOf clearOf
+  unfolding workStep formOf clearOf
   form-cleared slot l = clears slot _ l
 
   formats-by : (f : Form) (normal : Bool) (st1 done : ℕ) (effect : Effect) → During c (Formatting site plan f) a b

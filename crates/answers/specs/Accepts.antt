@@ -8,7 +8,7 @@ use mathlib.Core.List.{List, [], _∷_}
 use mathlib.Core.Logic.{_↔_}
 use mathlib.Core.Path.{_≡_}
 use lib.ListN.{length}
-use Rattle.chip.specs.Commands.{kindOf, bytesOf}
+use Rattle.chip.specs.Commands.{kindOf, byteCount}
 use Rattle.chip.specs.Fifo.{emptied}
 use Rattle.drive.specs.declared.Motion.{Motion}
 use Rattle.drive.specs.declared.Motion.the-variants.{Seeking, Recalibrating}
@@ -18,7 +18,7 @@ use Rattle.sectors.specs.declared.order.Pass.the-variants.{Read, Write}
 use Rattle.sectors.specs.declared.order.Job.the-variants.{Identify, Move, Format}
 use Rattle.fdc.specs.declared.record.Controller.{Controller}
 use Rattle.fdc.specs.declared.record.Phase.the-variants.{Idle, Starting, Sensing}
-use Rattle.fdc.specs.Commands.{ticksOf}
+use Rattle.fdc.specs.Commands.{stepTime}
 use Rattle.fdc.specs.Record.{noBytes, driveAt}
 use Rattle.reached.specs.Runs.{Call, writes, runCalls}
 use Rattle.answers.specs.CommandResults.{Said, Waits, NoneBusy}
@@ -46,7 +46,7 @@ abbrev pub afterBytes : List ℕ → Controller → Controller
 afterBytes bytes c = runCalls (sends bytes) c
 
 -- the order waits for the tick that starts it, and nothing else is changed
-pub record Begun (c e : Controller) (order : Order) : Type 0 where
+pub record BegunOrder (c e : Controller) (order : Order) : Type 0 where
   pub starts : e .phase ≡ Starting order
   pub bytes : e .bytes ≡ noBytes
   pub else : SameElse c e
@@ -78,7 +78,7 @@ pub record Moves (c e : Controller) (k : ℕ) (motion : Motion) : Type 0 where
 pub record Accepts (c : Controller) : Type 0 where
   -- nine bytes: code, side and drive (bit 2, bits 1-0), C H R N, EOT, GPL, DTL
   pub read : (deleted mt sk : Bool) (unit cc hh rr nn eot gpl dtl : ℕ) → Ready c → NoneBusy c
-      → Begun c (afterBytes
+      → BegunOrder c (afterBytes
       (readCode deleted mt sk ∷ unit ∷ cc ∷ hh ∷ rr ∷ nn ∷ eot ∷ gpl ∷ dtl ∷ []) c)
       (record {
         drive = unit % 4;
@@ -89,7 +89,7 @@ pub record Accepts (c : Controller) : Type 0 where
       })
   -- likewise, without SK
   pub write : (deleted mt : Bool) (unit cc hh rr nn eot gpl dtl : ℕ) → Ready c → NoneBusy c
-      → Begun c (afterBytes
+      → BegunOrder c (afterBytes
       (writeCode deleted mt ∷ unit ∷ cc ∷ hh ∷ rr ∷ nn ∷ eot ∷ gpl ∷ dtl ∷ []) c)
       (record {
         drive = unit % 4;
@@ -100,11 +100,11 @@ pub record Accepts (c : Controller) : Type 0 where
       })
   -- Format 4D: six: code, side/drive, N, SC, GPL, D
   pub format : (unit nn sc gpl d : ℕ) → Ready c → NoneBusy c
-      → Begun c (afterBytes (0x4D ∷ unit ∷ nn ∷ sc ∷ gpl ∷ d ∷ []) c)
+      → BegunOrder c (afterBytes (0x4D ∷ unit ∷ nn ∷ sc ∷ gpl ∷ d ∷ []) c)
       (record { drive = unit % 4; side = unit / 4 % 2; job = Format (record { n = nn; sc = sc; fill = d }) })
   -- Read ID 4A: two
   pub read-id : (unit : ℕ) → Ready c → NoneBusy c
-      → Begun c (afterBytes (0x4A ∷ unit ∷ []) c)
+      → BegunOrder c (afterBytes (0x4A ∷ unit ∷ []) c)
       (record { drive = unit % 4; side = unit / 4 % 2; job = Identify })
   -- Sense Drive 04: two; side and drive are kept for the next tick
   pub sense-drive : (unit : ℕ) → Ready c → NoneBusy c
@@ -113,12 +113,12 @@ pub record Accepts (c : Controller) : Type 0 where
   pub seek : (unit ncn : ℕ) → Ready c → driveAt (unit % 4) (c .drives) .busy ≡ false
       → Moves c (afterBytes (0x0F ∷ unit ∷ ncn ∷ []) c) (unit % 4)
       (Seeking ncn (distance (driveAt (unit % 4) (c .drives) .pcn) ncn)
-      (firstWait (distance (driveAt (unit % 4) (c .drives) .pcn) ncn) (ticksOf c)))
+      (firstWait (distance (driveAt (unit % 4) (c .drives) .pcn) ncn) (stepTime c)))
   -- Recalibrate 07: two; out until the head is at 0, at most 79 steps
   pub recalibrate : (unit : ℕ) → Ready c → driveAt (unit % 4) (c .drives) .busy ≡ false
       → Moves c (afterBytes (0x07 ∷ unit ∷ []) c) (unit % 4)
       (Recalibrating (recalibrateSteps (unit % 4) (driveAt (unit % 4) (c .drives) .head))
-      (firstWait (recalibrateSteps (unit % 4) (driveAt (unit % 4) (c .drives) .head)) (ticksOf c)))
+      (firstWait (recalibrateSteps (unit % 4) (driveAt (unit % 4) (c .drives) .head)) (stepTime c)))
 
 -- it answers 80 alone, and nothing else is changed
 pub record Refuses (c e : Controller) : Type 0 where
@@ -131,7 +131,7 @@ pub record BusyRule (c : Controller) : Type 0 where
   -- while any busy bit is on, all but Seek 0F, Recalibrate 07 and Sense Interrupt 08 answer 80 once complete: any code
   -- and as many bytes as it has, whatever they are
   pub all-but : (code : ℕ) (rest : List ℕ) (k : ℕ) → Ready c → k < 4 → driveAt k (c .drives) .busy ≡ true
-      → (code ≡ 0x0F → ⊥) → (code ≡ 0x07 → ⊥) → (code ≡ 0x08 → ⊥) → suc (length rest) ≡ bytesOf (kindOf code)
+      → (code ≡ 0x0F → ⊥) → (code ≡ 0x07 → ⊥) → (code ≡ 0x08 → ⊥) → suc (length rest) ≡ byteCount (kindOf code)
       → Refuses c (afterBytes (code ∷ rest) c)
   -- as does a Seek or Recalibrate for a busy drive
   pub seek : (unit ncn : ℕ) → Ready c → driveAt (unit % 4) (c .drives) .busy ≡ true
@@ -140,7 +140,7 @@ pub record BusyRule (c : Controller) : Type 0 where
       → Refuses c (afterBytes (0x07 ∷ unit ∷ []) c)
 
 -- the command is over, and neither a drive nor the FIFO is changed
-pub record Over (c e : Controller) : Type 0 where
+pub record OverAtOnce (c e : Controller) : Type 0 where
   pub idle : e .phase ≡ Idle
   pub bytes : e .bytes ≡ noBytes
   pub drives : e .drives ≡ c .drives
@@ -151,7 +151,7 @@ pub record Over (c e : Controller) : Type 0 where
 
 -- 01 Commands Specify: SRT/HUT, HLT/ND
 pub record Specified (c e : Controller) (first second : ℕ) : Type 0 where
-  pub over : Over c e
+  pub over : OverAtOnce c e
   pub spec1 : e .registers .spec1 ≡ first
   pub spec2 : e .registers .spec2 ≡ second
   pub eis : e .registers .eis ≡ c .registers .eis
@@ -162,7 +162,7 @@ pub record Specified (c e : Controller) (first second : ℕ) : Type 0 where
 
 -- 01 Commands Configure: EIS 40, EFIFO 20, POLL 10, FIFOTHR; PRETRK
 pub record Configured (c e : Controller) (byte track : ℕ) : Type 0 where
-  pub over : Over c e
+  pub over : OverAtOnce c e
   pub spec1 : e .registers .spec1 ≡ c .registers .spec1
   pub spec2 : e .registers .spec2 ≡ c .registers .spec2
   pub eis : (e .registers .eis ≡ true) ↔ (byte / 0x40 % 2 ≡ 1)

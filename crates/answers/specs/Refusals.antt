@@ -8,7 +8,7 @@ use mathlib.Core.List.{List}
 use mathlib.Core.Logic.{_⊎_, _↔_}
 use mathlib.Core.Path.{_≡_}
 use Rattle.chip.specs.Fifo.{capacityOf}
-use Rattle.drive.specs.Drive.{waitOf as countdownOf}
+use Rattle.drive.specs.Drive.{countdownOf}
 use Rattle.fdc.specs.declared.record.Controller.{Controller}
 use Rattle.fdc.specs.Answer.{valueOf, numberIn}
 use Rattle.fdc.specs.Data.{phaseToHost, phaseFromHost}

@@ -102,22 +102,22 @@ pub record Lines : Type 0 where
       → (answerTo call c .drq ≡ true) ↔ (GateOn (after call c) × (Dma (after call c) × Requests (after call c)))
 
 -- 01 Registers: DOR reads back; TDR: two bits, others 0
-pub record ReadBack : Type 0 where
+pub record RegistersBack : Type 0 where
   pub dor : (c : Controller) (byte : ℕ) → Real c → readsAs 2 (after (writes 2 byte) c) ≡ byte
   pub tdr : (c : Controller) (byte : ℕ) → Real c → readsAs 3 (after (writes 3 byte) c) ≡ byte % 4
 
 -- 01 Registers DIR: bit 7 is the change flag of the drive in DOR if its motor bit is on (drives 2 and 3: always on),
 -- other bits 0 (house)
-abbrev pub driveIn : Controller → ℕ
-driveIn c = c .registers .dor % 4
+abbrev pub driveSelected : Controller → ℕ
+driveSelected c = c .registers .dor % 4
 
 abbrev pub MotorOn : Controller → Type 0
-MotorOn c = c .registers .dor / 2 ^ (4 + driveIn c) % 2 ≡ 1
+MotorOn c = c .registers .dor / 2 ^ (4 + driveSelected c) % 2 ≡ 1
 
 pub record Dir (c : Controller) : Type 0 where
-  pub changed : Undamaged c → MotorOn c → (2 ≤ driveIn c) ⊎ (driveAt (driveIn c) (c .drives) .changed ≡ true)
+  pub changed : Undamaged c → MotorOn c → (2 ≤ driveSelected c) ⊎ (driveAt (driveSelected c) (c .drives) .changed ≡ true)
       → readsAs 7 c ≡ 0x80
-  pub unchanged : Undamaged c → driveIn c < 2 → driveAt (driveIn c) (c .drives) .changed ≡ false → readsAs 7 c ≡ 0x00
+  pub unchanged : Undamaged c → driveSelected c < 2 → driveAt (driveSelected c) (c .drives) .changed ≡ false → readsAs 7 c ≡ 0x00
   pub motor-off : Undamaged c → (MotorOn c → ⊥) → readsAs 7 c ≡ 0x00
 
 -- 01 Registers power-on, with heads that are not refused

@@ -94,10 +94,10 @@ firstId (Move transfer id) drive side head = id
 firstId (Format plan) drive side head = formattedId plan drive head side 0
 
 -- a Write or a Format
-abbrev pub Changes : Job → Type 0
-Changes Identify = ⊥
-Changes (Move transfer id) = transfer .pass ≡ Write
-Changes (Format plan) = Unit {0}
+abbrev pub ChangesJob : Job → Type 0
+ChangesJob Identify = ⊥
+ChangesJob (Move transfer id) = transfer .pass ≡ Write
+ChangesJob (Format plan) = Unit {0}
 
 -- 01 Data commands: Format with N not the header's, SC 0 or SC above S
 abbrev pub Misplanned : Plan → Geometry → Type 0
@@ -120,7 +120,7 @@ pub record FirstEnds : Type 0 where
   -- Write or Format, protected: ST1 02
   pub protected : (c : Controller) (order : Order) (a b : List ℕ) (g : Geometry) → Before c order
       → diskOf (order .drive) a b c ≡ Present g → OnTrack g (headAt (order .drive) c) (order .side)
-      → Changes (order .job) → g .protect ≡ true → FailsFirst 0x02 c order a b
+      → ChangesJob (order .job) → g .protect ≡ true → FailsFirst 0x02 c order a b
   -- Format with N not the header's, SC 0 or SC above S: ST1 04
   pub misplanned : (c : Controller) (order : Order) (a b : List ℕ) (g : Geometry) (plan : Plan) → Before c order
       → diskOf (order .drive) a b c ≡ Present g → OnTrack g (headAt (order .drive) c) (order .side)
@@ -138,8 +138,8 @@ pub record During (c : Controller) (work : Work) (a b : List ℕ) : Type 0 where
 abbrev pub slotIn : Controller → Site → List ℕ → List ℕ → ℕ → Slot
 slotIn c site a b k = slotOf (pickOf (site .drive) a b) site (headAt (site .drive) c) k
 
-abbrev pub marked : Slot → Mark
-marked slot = markOf (slot .mark)
+abbrev pub slotMark : Slot → Mark
+slotMark slot = markOf (slot .mark)
 
 abbrev pub Sought : Slot → Site → Task → Type 0
 Sought slot site task = (slot .id ≡ task .id) × (slot .id .n ≡ site .disk .n)
@@ -154,8 +154,8 @@ abbrev pub SecondPass : ℕ → ℕ → Site → Type 0
 SecondPass slot passes site = (site .disk .slots ≤ slot + 1) × (1 ≤ passes)
 
 -- 01 Read: ST2 40 from then on, once another kind of mark was met. 01 Result: the sector in hand
-abbrev pub Fails : ℕ → ℕ → Controller → Site → Task → List ℕ → List ℕ → Type 0
-Fails st1 st2 c site task a b =
+abbrev pub FailsWith : ℕ → ℕ → Controller → Site → Task → List ℕ → List ℕ → Type 0
+FailsWith st1 st2 c site task a b =
     Result (after (ticks a b) c) (failedSt0 (site .side) (site .drive)) st1 (otherBit (task .other) + st2) (task .id)
 
 -- 01 Search: ST2 10 if an ID had another C below FF and 02 if one had another C that is FF; both may stand
@@ -173,39 +173,39 @@ isFf look c wanted = look .bad || not (eqb c wanted) && eqb c 0xFF
 pub record SearchEnds (c : Controller) (site : Site) (task : Task) (a b : List ℕ) : Type 0 where
   -- no ID met: ST1 01
   pub no-id : (look : Search) → During c (Moving site task (Searching look)) a b
-      → SecondPass (look .slot) (look .passes) site → marked (slotIn c site a b (look .slot)) ≡ NoId
-      → look .met ≡ false → Fails 0x01 0x00 c site task a b
+      → SecondPass (look .slot) (look .passes) site → slotMark (slotIn c site a b (look .slot)) ≡ NoId
+      → look .met ≡ false → FailsWith 0x01 0x00 c site task a b
   -- else ST1 04, with ST2 10 if an ID had another C below FF and 02 if one had another C that is FF: the slots before
   pub others-met : (look : Search) → During c (Moving site task (Searching look)) a b
-      → SecondPass (look .slot) (look .passes) site → marked (slotIn c site a b (look .slot)) ≡ NoId
-      → look .met ≡ true → Fails 0x04 (cylinderSt2 (look .wrong) (look .bad)) c site task a b
+      → SecondPass (look .slot) (look .passes) site → slotMark (slotIn c site a b (look .slot)) ≡ NoId
+      → look .met ≡ true → FailsWith 0x04 (cylinderSt2 (look .wrong) (look .bad)) c site task a b
   -- and the last one too
   pub other-id : (look : Search) → During c (Moving site task (Searching look)) a b
-      → SecondPass (look .slot) (look .passes) site → HasId (marked (slotIn c site a b (look .slot)))
+      → SecondPass (look .slot) (look .passes) site → HasId (slotMark (slotIn c site a b (look .slot)))
       → (Sought (slotIn c site a b (look .slot)) site task → ⊥)
-      → Fails 0x04
+      → FailsWith 0x04
       (cylinderSt2 (belowFf look (slotIn c site a b (look .slot) .id .c) (task .id .c))
       (isFf look (slotIn c site a b (look .slot) .id .c) (task .id .c)))
       c site task a b
   -- Read, mark 5: ST1 01, ST2 01
   pub no-data : (look : Search) → During c (Moving site task (Searching look)) a b → task .transfer .pass ≡ Read
-      → marked (slotIn c site a b (look .slot)) ≡ NoData → Sought (slotIn c site a b (look .slot)) site task
-      → Fails 0x01 0x01 c site task a b
+      → slotMark (slotIn c site a b (look .slot)) ≡ NoData → Sought (slotIn c site a b (look .slot)) site task
+      → FailsWith 0x01 0x01 c site task a b
   -- no such side, the tick after an MT turn: ST1 01
   pub no-side : (slot : ℕ) → During c (Moving site task (Turning slot)) a b
-      → NoTrack (site .disk) (headAt (site .drive) c) (site .side) → Fails 0x01 0x00 c site task a b
+      → NoTrack (site .disk) (headAt (site .drive) c) (site .side) → FailsWith 0x01 0x00 c site task a b
 
 -- 01 Read
 pub record ReadEnds (c : Controller) (site : Site) (task : Task) (a b : List ℕ) : Type 0 where
   -- a byte to move and the FIFO full: ST1 10
   pub overrun : (sector : Sector) (done : ℕ) → During c (Moving site task (Reading sector done)) a b
-      → c .fifo .tc ≡ false → capacityOf (c .registers .efifo) ≤ c .fifo .count → Fails 0x10 0x00 c site task a b
+      → c .fifo .tc ≡ false → capacityOf (c .registers .efifo) ≤ c .fifo .count → FailsWith 0x10 0x00 c site task a b
   -- the 64th look that finds bytes: ST1 10
   pub not-taken : (sector : Sector) (looks : ℕ) → During c (Moving site task (Draining sector looks)) a b
-      → 0 < c .fifo .count → 63 ≤ looks → Fails 0x10 0x00 c site task a b
+      → 0 < c .fifo .count → 63 ≤ looks → FailsWith 0x10 0x00 c site task a b
   -- one that finds none, in this order: broken, ST1 20, ST2 20
   pub data-error : (sector : Sector) (looks : ℕ) → During c (Moving site task (Draining sector looks)) a b
-      → c .fifo .count ≡ 0 → sector .broken ≡ true → Fails 0x20 0x20 c site task a b
+      → c .fifo .count ≡ 0 → sector .broken ≡ true → FailsWith 0x20 0x20 c site task a b
   -- other kind, IC 00, address as it was (house)
   pub other-kind : (sector : Sector) (looks : ℕ) → During c (Moving site task (Draining sector looks)) a b
       → c .fifo .count ≡ 0 → sector .broken ≡ false → sector .other ≡ true
@@ -216,10 +216,10 @@ pub record ReadEnds (c : Controller) (site : Site) (task : Task) (a b : List ℕ
 pub record WriteEnds (c : Controller) (site : Site) (task : Task) (a b : List ℕ) : Type 0 where
   -- the 64th tick without a byte: ST1 10
   pub no-byte : (slot wait : ℕ) → During c (Moving site task (Awaiting slot wait)) a b → c .fifo .count ≡ 0
-      → 63 ≤ wait → Fails 0x10 0x00 c site task a b
+      → 63 ≤ wait → FailsWith 0x10 0x00 c site task a b
   -- FIFO empty without TC: ST1 10
   pub underrun : (slot done : ℕ) → During c (Moving site task (Storing slot done)) a b → c .fifo .count ≡ 0
-      → done < sizeOf (site .disk .n) → c .fifo .tc ≡ false → Fails 0x10 0x00 c site task a b
+      → done < sizeOf (site .disk .n) → c .fifo .tc ≡ false → FailsWith 0x10 0x00 c site task a b
 
 -- 01 Next: where a sector is done: read to its end and taken, stored with its good mark, or skipped in the tick of the
 -- match. TC counts for a write with the FIFO empty; `other` says whether ST2 has its 40
@@ -231,7 +231,7 @@ pub data AtNext (c : Controller) (site : Site) (task : Task) (a b : List ℕ) (s
   stored : (slot done : ℕ) → stage ≡ Storing slot done → sizeOf (site .disk .n) ≤ done
       → (c .fifo .tc && eqb (c .fifo .count) 0) ≡ tc → task .other ≡ other → AtNext c site task a b stage tc other
   skipped : (look : Search) (deleted broken : Bool) → stage ≡ Searching look → task .transfer .pass ≡ Read
-      → task .transfer .sk ≡ true → marked (slotIn c site a b (look .slot)) ≡ Data deleted broken
+      → task .transfer .sk ≡ true → slotMark (slotIn c site a b (look .slot)) ≡ Data deleted broken
       → Sought (slotIn c site a b (look .slot)) site task → (deleted ≡ task .transfer .deleted → ⊥)
       → c .fifo .tc ≡ tc → other ≡ true → AtNext c site task a b stage tc other
 
@@ -239,7 +239,7 @@ pub data AtNext (c : Controller) (site : Site) (task : Task) (a b : List ℕ) (s
 abbrev pub nextId : Site → Task → Id
 nextId site task = advancedOf (task .id) (task .transfer .eot) (task .transfer .mt) (site .side) 1
 
-pub record NextEnds (c : Controller) (site : Site) (task : Task) (a b : List ℕ) : Type 0 where
+pub record EndsByNext (c : Controller) (site : Site) (task : Task) (a b : List ℕ) : Type 0 where
   -- TC ends the command normally
   pub by-tc : (stage : Stage) (other : Bool) → During c (Moving site task stage) a b
       → AtNext c site task a b stage true other
@@ -256,11 +256,11 @@ pub record NextEnds (c : Controller) (site : Site) (task : Task) (a b : List ℕ
 pub record ReadIdEnds (c : Controller) (site : Site) (a b : List ℕ) : Type 0 where
   -- first ID from slot 0
   pub found : (slot passes : ℕ) → During c (Identifying site slot passes) a b
-      → HasId (marked (slotIn c site a b slot))
+      → HasId (slotMark (slotIn c site a b slot))
       → Result (after (ticks a b) c) (normalSt0 (site .side) (site .drive)) 0x00 0x00 (slotIn c site a b slot .id)
   -- none by the second index: ST1 01
   pub none : (slot passes : ℕ) → During c (Identifying site slot passes) a b → SecondPass slot passes site
-      → marked (slotIn c site a b slot) ≡ NoId
+      → slotMark (slotIn c site a b slot) ≡ NoId
       → Result (after (ticks a b) c) (failedSt0 (site .side) (site .drive)) 0x01 0x00 zeros
 
 -- 01 Format: its C H R N is the same at every end but for the slots done
@@ -294,7 +294,7 @@ pub record LostEnds (c : Controller) (a b : List ℕ) : Type 0 where
       → Lost (diskOf (site .drive) a b c) (site .disk)
       → Result (after (ticks a b) c) (failedSt0 (site .side) (site .drive)) 0x01 0x00 zeros
   pub moves : (site : Site) (task : Task) (stage : Stage) → Real c → c .phase ≡ Working (Moving site task stage)
-      → Lost (diskOf (site .drive) a b c) (site .disk) → Fails 0x01 0x00 c site task a b
+      → Lost (diskOf (site .drive) a b c) (site .disk) → FailsWith 0x01 0x00 c site task a b
   pub formats : (site : Site) (plan : Plan) (f : Form) → Real c → c .phase ≡ Working (Formatting site plan f)
       → Lost (diskOf (site .drive) a b c) (site .disk)
       → Result (after (ticks a b) c) (failedSt0 (site .side) (site .drive)) 0x01 0x00
@@ -306,7 +306,7 @@ pub record ResultBytes : Type 0 where
   pub search : (c : Controller) (site : Site) (task : Task) (a b : List ℕ) → SearchEnds c site task a b
   pub reads : (c : Controller) (site : Site) (task : Task) (a b : List ℕ) → ReadEnds c site task a b
   pub writes : (c : Controller) (site : Site) (task : Task) (a b : List ℕ) → WriteEnds c site task a b
-  pub next : (c : Controller) (site : Site) (task : Task) (a b : List ℕ) → NextEnds c site task a b
+  pub next : (c : Controller) (site : Site) (task : Task) (a b : List ℕ) → EndsByNext c site task a b
   pub read-id : (c : Controller) (site : Site) (a b : List ℕ) → ReadIdEnds c site a b
   pub format : (c : Controller) (site : Site) (plan : Plan) (a b : List ℕ) → FormatEnds c site plan a b
   pub lost : (c : Controller) (a b : List ℕ) → LostEnds c a b

@@ -9,9 +9,9 @@ use lib.ListN.{length}
 use Rattle.fdc.specs.declared.answer.Answer.{Answer}
 use Rattle.fdc.specs.Answer.{numberIn}
 use Rattle.fdc.specs.Ticks.{imageAfter}
-use Rattle.pack.specs.Back.{Holds}
+use Rattle.pack.specs.Back.{HoldsRecord}
 use Rattle.pack.specs.Bytes.{recordSize, recordIn, isRecord, storedOf, fifoStored}
-use Rattle.many_ticks.specs.Run.{ticksOf}
+use Rattle.many_ticks.specs.Run.{manyTicks}
 use Rattle.capi.specs.Word.{noRecord, wordOf, longOf}
 
 -- a byte for a flag
@@ -19,15 +19,15 @@ abbrev pub setIn : ℕ → Bool
 setIn byte = not (eqb byte 0)
 
 -- 01 Refusals: the record as handed in
-unfoldable pub writtenOf : Answer → List ℕ → List ℕ
-writtenOf answer l = cond (eqb (numberIn (answer .reply)) 0) (storedOf (answer .controller) l) l
+unfoldable pub writtenBack : Answer → List ℕ → List ℕ
+writtenBack answer l = cond (eqb (numberIn (answer .reply)) 0) (storedOf (answer .controller) l) l
 
 -- the word and the bytes after a call that answers so of the record in the bytes l
-unfoldable pub wordFrom : List ℕ → Answer → ℕ
-wordFrom l answer = cond (isRecord l) (wordOf answer) noRecord
+unfoldable pub wordBack : List ℕ → Answer → ℕ
+wordBack l answer = cond (isRecord l) (wordOf answer) noRecord
 
 unfoldable pub bytesFrom : List ℕ → Answer → List ℕ
-bytesFrom l answer = cond (isRecord l) (writtenOf answer l) l
+bytesFrom l answer = cond (isRecord l) (writtenBack answer l) l
 
 -- 01 FIFO: a DMA cycle changes the FIFO alone
 unfoldable pub cycledOf : Answer → List ℕ → List ℕ
@@ -38,7 +38,7 @@ cycleFrom l answer = cond (isRecord l) (cycledOf answer l) l
 
 -- reading back what was written is the record: after a call that was not refused the bytes hold the one handed back
 abbrev pub HoldsFrom : List ℕ → Answer → List ℕ → Type 0
-HoldsFrom l answer after = isRecord l ≡ true → numberIn (answer .reply) ≡ 0 → Holds after (answer .controller)
+HoldsFrom l answer after = isRecord l ≡ true → numberIn (answer .reply) ≡ 0 → HoldsRecord after (answer .controller)
 
 -- power-on asks for enough bytes and no more; its refusal 5 has a record too (01 Refusals 5)
 unfoldable pub powerWord : List ℕ → Answer → ℕ
@@ -54,10 +54,10 @@ imageFrom k l a b img = cond (isRecord l) (imageAfter k a b (recordIn l) img) im
 -- after many ticks
 unfoldable pub longFrom : ℕ → List ℕ → List ℕ → List ℕ → ℕ
 longFrom n l a b =
-    cond (isRecord l) (longOf (wordOf (ticksOf n a b (recordIn l) .answer)) (ticksOf n a b (recordIn l) .made)) noRecord
+    cond (isRecord l) (longOf (wordOf (manyTicks n a b (recordIn l) .answer)) (manyTicks n a b (recordIn l) .made)) noRecord
 
 unfoldable pub firstFrom : ℕ → List ℕ → List ℕ → List ℕ → List ℕ
-firstFrom n l a b = cond (isRecord l) (ticksOf n a b (recordIn l) .first) a
+firstFrom n l a b = cond (isRecord l) (manyTicks n a b (recordIn l) .first) a
 
 unfoldable pub secondFrom : ℕ → List ℕ → List ℕ → List ℕ → List ℕ
-secondFrom n l a b = cond (isRecord l) (ticksOf n a b (recordIn l) .second) b
+secondFrom n l a b = cond (isRecord l) (manyTicks n a b (recordIn l) .second) b

@@ -22,13 +22,13 @@ ghost use Rattle.fdc.specs.Calls.{powerOn, readPort, writePort, dmaRead, dmaWri
 ghost use Rattle.fdc.specs.Answer.{numberIn};
 ghost use Rattle.fdc.specs.Record.{withFifo};
 ghost use Rattle.fdc.specs.Ticks.{tickOf};
-ghost use Rattle.pack.specs.Back.{Holds};
+ghost use Rattle.pack.specs.Back.{HoldsRecord};
 ghost use Rattle.pack.specs.Bytes.{recordSize, recordIn, isRecord};
-ghost use Rattle.many_ticks.specs.Run.{ticksOf};
+ghost use Rattle.many_ticks.specs.Run.{manyTicks};
 ghost use Rattle.capi.specs.Calls.{
   setIn,
-  writtenOf,
-  wordFrom,
+  writtenBack,
+  wordBack,
   bytesFrom,
   cycledOf,
   cycleFrom,
@@ -54,7 +54,7 @@ fn set_in(byte: u8) -> bool
 // A refusal leaves the bytes as they are.
 fn finish(s: &mut [u8], answer: Answer) -> u32
     ensures word { λ r. ⌜ r ≡ wordOf answer ⌝ }
-    ensures bytes { λ _. ⌜ now (s .exit) ≡ writtenOf answer (now (s .entry)) ⌝ }
+    ensures bytes { λ _. ⌜ now (s .exit) ≡ writtenBack answer (now (s .entry)) ⌝ }
     ensures back { λ _. ⌜ HoldsFrom (now (s .entry)) answer (now (s .exit)) ⌝ }
 {
     let reply = answer.reply;
@@ -72,7 +72,7 @@ fn finish_cycle(s: &mut [u8], answer: Answer) -> u32
     ensures word { λ r. ⌜ r ≡ wordOf answer ⌝ }
     ensures bytes { λ _. ⌜ now (s .exit) ≡ cycledOf answer (now (s .entry)) ⌝ }
     ensures back { λ _. ⌜ (isRecord (now (s .entry)) ≡ true → numberIn (answer .reply) ≡ 0
-        → Holds (now (s .exit)) (withFifo (answer .controller .fifo) (recordIn (now (s .entry))))) ⌝ }
+        → HoldsRecord (now (s .exit)) (withFifo (answer .controller .fifo) (recordIn (now (s .entry))))) ⌝ }
 {
     let reply = answer.reply;
     let done = refusal_number(reply) == 0;
@@ -97,7 +97,7 @@ pub extern "C" fn bel_power_on(s: &mut [u8], head0: u8, head1: u8) -> u32
     ensures word { λ r. ⌜ r ≡ powerWord (now (s .entry)) (powerOn head0 head1) ⌝ }
     ensures bytes { λ _. ⌜ now (s .exit) ≡ powerBytes (now (s .entry)) (powerOn head0 head1) ⌝ }
     ensures back { λ _. ⌜ (recordSize ≤ length (now (s .entry))
-        → Holds (now (s .exit)) (powerOn head0 head1 .controller)) ⌝ }
+        → HoldsRecord (now (s .exit)) (powerOn head0 head1 .controller)) ⌝ }
 {
     let enough = RECORD_SIZE <= s.len();
     if enough {
@@ -111,7 +111,7 @@ pub extern "C" fn bel_power_on(s: &mut [u8], head0: u8, head1: u8) -> u32
 
 #[no_mangle]
 pub extern "C" fn bel_read_port(s: &mut [u8], offset: u8) -> u32
-    ensures word { λ r. ⌜ r ≡ wordFrom (now (s .entry)) (readPort offset (recordIn (now (s .entry)))) ⌝ }
+    ensures word { λ r. ⌜ r ≡ wordBack (now (s .entry)) (readPort offset (recordIn (now (s .entry)))) ⌝ }
     ensures bytes { λ _. ⌜ now (s .exit)
         ≡ bytesFrom (now (s .entry)) (readPort offset (recordIn (now (s .entry)))) ⌝ }
     ensures back { λ _. ⌜ HoldsFrom (now (s .entry)) (readPort offset (recordIn (now (s .entry))))
@@ -128,7 +128,7 @@ pub extern "C" fn bel_read_port(s: &mut [u8], offset: u8) -> u32
 #[no_mangle]
 pub extern "C" fn bel_write_port(s: &mut [u8], offset: u8, byte: u8) -> u32
     ensures word { λ r. ⌜ r
-        ≡ wordFrom (now (s .entry)) (writePort offset byte (recordIn (now (s .entry)))) ⌝ }
+        ≡ wordBack (now (s .entry)) (writePort offset byte (recordIn (now (s .entry)))) ⌝ }
     ensures bytes { λ _. ⌜ now (s .exit)
         ≡ bytesFrom (now (s .entry)) (writePort offset byte (recordIn (now (s .entry)))) ⌝ }
     ensures back { λ _. ⌜ HoldsFrom (now (s .entry)) (writePort offset byte (recordIn (now (s .entry))))
@@ -146,7 +146,7 @@ pub extern "C" fn bel_write_port(s: &mut [u8], offset: u8, byte: u8) -> u32
 #[no_mangle]
 pub extern "C" fn bel_dma_read(s: &mut [u8], tc: u8) -> u32
     ensures word { λ r. ⌜ r
-        ≡ wordFrom (now (s .entry)) (dmaRead (setIn tc) (recordIn (now (s .entry)))) ⌝ }
+        ≡ wordBack (now (s .entry)) (dmaRead (setIn tc) (recordIn (now (s .entry)))) ⌝ }
     ensures bytes { λ _. ⌜ now (s .exit)
         ≡ cycleFrom (now (s .entry)) (dmaRead (setIn tc) (recordIn (now (s .entry)))) ⌝ }
     ensures back { λ _. ⌜ HoldsFrom (now (s .entry)) (dmaRead (setIn tc) (recordIn (now (s .entry))))
@@ -168,7 +168,7 @@ pub extern "C" fn bel_dma_read(s: &mut [u8], tc: u8) -> u32
 #[no_mangle]
 pub extern "C" fn bel_dma_write(s: &mut [u8], byte: u8, tc: u8) -> u32
     ensures word { λ r. ⌜ r
-        ≡ wordFrom (now (s .entry)) (dmaWrite byte (setIn tc) (recordIn (now (s .entry)))) ⌝ }
+        ≡ wordBack (now (s .entry)) (dmaWrite byte (setIn tc) (recordIn (now (s .entry)))) ⌝ }
     ensures bytes { λ _. ⌜ now (s .exit)
         ≡ cycleFrom (now (s .entry)) (dmaWrite byte (setIn tc) (recordIn (now (s .entry)))) ⌝ }
     ensures back { λ _. ⌜ HoldsFrom (now (s .entry)) (dmaWrite byte (setIn tc) (recordIn (now (s .entry))))
@@ -188,7 +188,7 @@ pub extern "C" fn bel_dma_write(s: &mut [u8], byte: u8, tc: u8) -> u32
 
 #[no_mangle]
 pub extern "C" fn bel_note_change(s: &mut [u8], drive: u8) -> u32
-    ensures word { λ r. ⌜ r ≡ wordFrom (now (s .entry)) (noteChange drive (recordIn (now (s .entry)))) ⌝ }
+    ensures word { λ r. ⌜ r ≡ wordBack (now (s .entry)) (noteChange drive (recordIn (now (s .entry)))) ⌝ }
     ensures bytes { λ _. ⌜ now (s .exit)
         ≡ bytesFrom (now (s .entry)) (noteChange drive (recordIn (now (s .entry)))) ⌝ }
     ensures back { λ _. ⌜ HoldsFrom (now (s .entry)) (noteChange drive (recordIn (now (s .entry))))
@@ -206,7 +206,7 @@ pub extern "C" fn bel_note_change(s: &mut [u8], drive: u8) -> u32
 #[no_mangle]
 pub extern "C" fn bel_tick(s: &mut [u8], image0: &mut [u8], image1: &mut [u8]) -> u32
     ensures word { λ r. ⌜ r
-        ≡ wordFrom (now (s .entry))
+        ≡ wordBack (now (s .entry))
         (tickOf (now (image0 .entry)) (now (image1 .entry)) (recordIn (now (s .entry)))) ⌝ }
     ensures bytes { λ _. ⌜ now (s .exit)
         ≡ bytesFrom (now (s .entry))
@@ -234,9 +234,9 @@ pub extern "C" fn bel_ticks(s: &mut [u8], image0: &mut [u8], image1: &mut [u8], 
         ≡ longFrom n (now (s .entry)) (now (image0 .entry)) (now (image1 .entry)) ⌝ }
     ensures bytes { λ _. ⌜ now (s .exit)
         ≡ bytesFrom (now (s .entry))
-        (ticksOf n (now (image0 .entry)) (now (image1 .entry)) (recordIn (now (s .entry))) .answer) ⌝ }
+        (manyTicks n (now (image0 .entry)) (now (image1 .entry)) (recordIn (now (s .entry))) .answer) ⌝ }
     ensures back { λ _. ⌜ HoldsFrom (now (s .entry))
-        (ticksOf n (now (image0 .entry)) (now (image1 .entry)) (recordIn (now (s .entry))) .answer)
+        (manyTicks n (now (image0 .entry)) (now (image1 .entry)) (recordIn (now (s .entry))) .answer)
         (now (s .exit)) ⌝ }
     ensures first { λ _. ⌜ now (image0 .exit)
         ≡ firstFrom n (now (s .entry)) (now (image0 .entry)) (now (image1 .entry)) ⌝ }

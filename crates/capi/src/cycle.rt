@@ -11,7 +11,7 @@ ghost use mathlib.Core.Bool.{true};
 ghost use Rattle.fdc.specs.Answer.{answerOf};
 ghost use Rattle.fdc.specs.Calls.{dmaRead, dmaWrite};
 ghost use Rattle.fdc.specs.Record.{withFifo};
-ghost use Rattle.pack.specs.Back.{Holds};
+ghost use Rattle.pack.specs.Back.{HoldsRecord};
 ghost use Rattle.pack.specs.Bytes.{recordIn, isRecord, fifoStored};
 ghost use Rattle.pack.specs.Cycle.{cyclesIn, readingIn, writingIn};
 ghost use Rattle.capi.specs.Calls.{cycledOf};
@@ -21,7 +21,7 @@ fn cycled(s: &mut [u8], reply: Reply, f: Fifo) -> u32
     requires { ⌜ (isRecord (now s) ≡ true) × (cyclesIn (now s) ≡ true) ⌝ }
     ensures word { λ r. ⌜ r ≡ wordOf (answerOf reply (withFifo f (recordIn (now (s .entry))))) ⌝ }
     ensures bytes { λ _. ⌜ now (s .exit) ≡ fifoStored f (now (s .entry)) ⌝ }
-    ensures back { λ _. ⌜ Holds (now (s .exit)) (withFifo f (recordIn (now (s .entry)))) ⌝ }
+    ensures back { λ _. ⌜ HoldsRecord (now (s .exit)) (withFifo f (recordIn (now (s .entry)))) ⌝ }
 {
     let int = pending(s);
     store_fifo(s, f);
@@ -34,7 +34,7 @@ pub(crate) fn read_cycle(s: &mut [u8], tc: bool) -> u32
     ensures word { λ r. ⌜ r ≡ wordOf (dmaRead tc (recordIn (now (s .entry)))) ⌝ }
     ensures bytes { λ _. ⌜ now (s .exit)
         ≡ cycledOf (dmaRead tc (recordIn (now (s .entry)))) (now (s .entry)) ⌝ }
-    ensures back { λ _. ⌜ Holds (now (s .exit)) (dmaRead tc (recordIn (now (s .entry))) .controller) ⌝ }
+    ensures back { λ _. ⌜ HoldsRecord (now (s .exit)) (dmaRead tc (recordIn (now (s .entry))) .controller) ⌝ }
 {
     let f = load_fifo(s);
     let byte = f.handed();
@@ -48,7 +48,7 @@ pub(crate) fn write_cycle(s: &mut [u8], byte: u8, tc: bool) -> u32
     ensures word { λ r. ⌜ r ≡ wordOf (dmaWrite byte tc (recordIn (now (s .entry)))) ⌝ }
     ensures bytes { λ _. ⌜ now (s .exit)
         ≡ cycledOf (dmaWrite byte tc (recordIn (now (s .entry)))) (now (s .entry)) ⌝ }
-    ensures back { λ _. ⌜ Holds (now (s .exit)) (dmaWrite byte tc (recordIn (now (s .entry))) .controller) ⌝ }
+    ensures back { λ _. ⌜ HoldsRecord (now (s .exit)) (dmaWrite byte tc (recordIn (now (s .entry))) .controller) ⌝ }
 {
     let f = load_fifo(s);
     let alone = efifo(s);

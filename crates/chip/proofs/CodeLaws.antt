@@ -7,12 +7,12 @@ use Rattle.chip.specs.declared.codes.Kind.{Kind}
 use Rattle.chip.specs.declared.codes.Kind.the-variants.{Unknown, ReadData, ReadDeleted, WriteData, WriteDeleted, ReadId, Format}
 use Rattle.chip.specs.declared.codes.Kind.the-variants.{Recalibrate, SenseInterrupt, Specify, SenseDrive, Seek, Version, Configure}
 use Rattle.chip.specs.declared.codes.Entry.{Entry}
-use Rattle.chip.specs.Commands.{kindOf, bytesOf, kindNumbered, lineOf, entryOf, knownBelow}
+use Rattle.chip.specs.Commands.{kindOf, byteCount, kindNumbered, tableLine, entryOf, knownBelow}
 
 -- a line of the table says its kind and its byte count
 pub line-read : (k : Kind)
-    → _≡_ {A = Entry} (record { kind = kindNumbered (lineOf k / 10); bytes = lineOf k % 10 })
-    (record { kind = k; bytes = bytesOf k })
+    → _≡_ {A = Entry} (record { kind = kindNumbered (tableLine k / 10); bytes = tableLine k % 10 })
+    (record { kind = k; bytes = byteCount k })
 unfolding kindNumbered
 line-read Unknown = refl
 line-read ReadData = refl
@@ -37,9 +37,9 @@ codes-known = refl
 -- 01 Commands: any other is one byte long
 pub unknown-bytes : (n : ℕ) → kindOf n ≡ Unknown → entryOf n .bytes ≡ 1
 unfolding entryOf
-unknown-bytes n e = ap bytesOf e
+unknown-bytes n e = ap byteCount e
 
-bytes-range : (k : Kind) → (1 ≤ bytesOf k) × (bytesOf k ≤ 9)
+bytes-range : (k : Kind) → (1 ≤ byteCount k) × (byteCount k ≤ 9)
 bytes-range Unknown = (omega arith, omega arith)
 bytes-range ReadData = (omega arith, omega arith)
 bytes-range ReadDeleted = (omega arith, omega arith)

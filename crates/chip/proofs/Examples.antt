@@ -3,11 +3,11 @@
 use mathlib.Core.Path.{refl}
 use Rattle.chip.specs.Commands.{kindOf, entryOf}
 use Rattle.chip.specs.Next.{advancedOf}
-use Rattle.chip.specs.Examples.{CheckedExamples}
+use Rattle.chip.specs.Examples.{ChipExamples}
 
-pub checked-examples : CheckedExamples
+pub chip-examples : ChipExamples
 unfolding kindOf entryOf advancedOf
-checked-examples = record {
+chip-examples = record {
   ex1-srt-0 = refl;
   ex1-srt-13 = refl;
   ex1-srt-15 = refl;

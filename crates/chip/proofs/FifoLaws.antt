@@ -12,7 +12,7 @@ use lib.ListN.{length, getD, set, take, drop, replicate}
 use lib.ListN.{length-set, length-append, length-drop, take-append-drop, replicate-append-replicate}
 use lib.Seq.{length-take-le, take-suc-set, take-append-le, drop-append-le, drop-set-lt, drop-drop}
 use Rattle.chip.specs.declared.fifo.Fifo.{Fifo}
-use Rattle.chip.specs.Fifo.{capacityOf, readLevel, writeLevel, fullOf, held, frontOf, handedOf, emptied, flagged, Fits, Over}
+use Rattle.chip.specs.Fifo.{capacityOf, readLevel, writeLevel, fullOf, held, frontOf, handedOf, emptied, flagged, FitsFifo, TcOver}
 use Rattle.chip.specs.Fifo.{pushedOf, poppedOf, filledOf, takenOf, openedOf, givenOf, drawnOf}
 use Rattle.image.proofs.TestLaws.{by-test, or-right}
 
@@ -110,7 +110,7 @@ module _ (efifo tc : Bool) (byte : ℕ) (f : Fifo) (room : fullOf efifo f ≡ fa
   given-asks-stays on e h = simp (room, on, e, lt-ltb _ _ h)
 
   -- 01 FIFO: after TC off for good; that it stays so is `over-..`
-  pub given-tc-over : tc ≡ true → Over (givenOf efifo tc byte f)
+  pub given-tc-over : tc ≡ true → TcOver (givenOf efifo tc byte f)
   unfolding givenOf
   given-tc-over e = record { tc = simp (room, e, or-true); quiet = simp (room, e, and-false) }
 
@@ -128,7 +128,7 @@ pub handed-some : (f : Fifo) → 0 < f .count → handedOf f ≡ frontOf f
 handed-some f l = rw (ne-eqb (f .count) 0 (λ e. omega arith))
 
 -- in every FIFO reached from an empty one that is the first of the array, since past the count stand zeros
-pub handed-fits : (efifo : Bool) (f : Fifo) → Fits efifo f → handedOf f ≡ frontOf f
+pub handed-fits : (efifo : Bool) (f : Fifo) → FitsFifo efifo f → handedOf f ≡ frontOf f
 handed-fits efifo f p =
     by-test (eqb (f .count) 0) (λ (x : ℕ). x ≡ frontOf f) _ _
     (λ t. let z = eqb-true (f .count) 0 t in
@@ -164,25 +164,25 @@ unfolding filledOf
 filled-tc-same efifo fifothr last byte f e = simp e
 
 -- 01 FIFO: after TC off for good, whatever follows, in both directions
-pub over-from-tc : (f : Fifo) → Over (takenOf true f)
+pub over-from-tc : (f : Fifo) → TcOver (takenOf true f)
 unfolding takenOf
 over-from-tc f = record { tc = refl; quiet = refl }
 
 pub over-filled : (efifo : Bool) (fifothr : ℕ) (last : Bool) (byte : ℕ) (f : Fifo)
-    → Over f → Over (filledOf efifo fifothr last byte f)
+    → TcOver f → TcOver (filledOf efifo fifothr last byte f)
 over-filled efifo fifothr last byte f o = rw (filled-tc-same efifo fifothr last byte f (o .tc)) o
 
-pub over-taken : (tc : Bool) (f : Fifo) → Over f → Over (takenOf tc f)
+pub over-taken : (tc : Bool) (f : Fifo) → TcOver f → TcOver (takenOf tc f)
 unfolding takenOf
 over-taken true f o = record { tc = refl; quiet = refl }
 over-taken false f o = record { tc = o .tc; quiet = simp (o .quiet) }
 
-pub over-given : (efifo tc : Bool) (byte : ℕ) (f : Fifo) → Over f → Over (givenOf efifo tc byte f)
+pub over-given : (efifo tc : Bool) (byte : ℕ) (f : Fifo) → TcOver f → TcOver (givenOf efifo tc byte f)
 unfolding givenOf
 over-given efifo tc byte f o =
-    by-test (fullOf efifo f) Over _ _ (λ t. record { tc = o .tc; quiet = refl }) (λ t. record { tc = simp (o .tc); quiet = simp (o .quiet) })
+    by-test (fullOf efifo f) TcOver _ _ (λ t. record { tc = o .tc; quiet = refl }) (λ t. record { tc = simp (o .tc); quiet = simp (o .quiet) })
 
-pub over-drawn : (efifo : Bool) (fifothr : ℕ) (f : Fifo) → Over f → Over (drawnOf efifo fifothr f)
+pub over-drawn : (efifo : Bool) (fifothr : ℕ) (f : Fifo) → TcOver f → TcOver (drawnOf efifo fifothr f)
 unfolding drawnOf
 over-drawn efifo fifothr f o = record { tc = o .tc; quiet = simp (o .tc) }
 
@@ -210,56 +210,56 @@ past-popped (suc m) l h b e =
     rw (u, drop-append-le m (drop 1 l) (0 ∷ []) (omega (arith, length-drop 1 l)), drop-drop m 1 l, s, e, ← t)
     (replicate-append-replicate (16 - suc m) 1 0)
 
-fits-flagged : (efifo asks tc : Bool) (f : Fifo) → Fits efifo f → Fits efifo (flagged asks tc f)
+fits-flagged : (efifo asks tc : Bool) (f : Fifo) → FitsFifo efifo f → FitsFifo efifo (flagged asks tc f)
 fits-flagged efifo asks tc f p = record { sixteen = p .sixteen; within = p .within; past = p .past }
 
 fits-pushed : (efifo : Bool) (byte : ℕ) (f : Fifo)
-    → fullOf efifo f ≡ false → Fits efifo f → Fits efifo (pushedOf byte f)
+    → fullOf efifo f ≡ false → FitsFifo efifo f → FitsFifo efifo (pushedOf byte f)
 fits-pushed efifo byte f room p = record {
   sixteen = length-set (f .bytes) (f .count) byte ∙ p .sixteen;
   within = omega (arith, leb-false (capacityOf efifo) (f .count) room);
   past = past-pushed byte (f .count) (f .bytes) (room-left efifo (f .count) room) (p .past);
 }
 
-fits-popped : (efifo : Bool) (f : Fifo) → Fits efifo f → Fits efifo (poppedOf f)
+fits-popped : (efifo : Bool) (f : Fifo) → FitsFifo efifo f → FitsFifo efifo (poppedOf f)
 fits-popped efifo f p = record {
   sixteen = simp (length-append, length-drop) (omega (arith, p .sixteen));
   within = omega (arith, p .within);
   past = past-popped (f .count) (f .bytes) (p .sixteen) (omega (arith, p .within, capacity-most efifo)) (p .past);
 }
 
-pub fits-emptied : (efifo : Bool) → Fits efifo emptied
+pub fits-emptied : (efifo : Bool) → FitsFifo efifo emptied
 fits-emptied efifo = record { sixteen = refl; within = omega arith; past = refl }
 
 pub fits-filled : (efifo : Bool) (fifothr : ℕ) (last : Bool) (byte : ℕ) (f : Fifo)
-    → Fits efifo f → Fits efifo (filledOf efifo fifothr last byte f)
+    → FitsFifo efifo f → FitsFifo efifo (filledOf efifo fifothr last byte f)
 unfolding filledOf
 fits-filled efifo fifothr last byte f p =
-    by-test (f .tc || fullOf efifo f) (Fits efifo) _ _ (λ t. p)
+    by-test (f .tc || fullOf efifo f) (FitsFifo efifo) _ _ (λ t. p)
     (λ t. fits-flagged efifo _ _ _ (fits-pushed efifo byte f (or-right (f .tc) (fullOf efifo f) t) p))
 
-pub fits-taken : (efifo tc : Bool) (f : Fifo) → Fits efifo f → Fits efifo (takenOf tc f)
+pub fits-taken : (efifo tc : Bool) (f : Fifo) → FitsFifo efifo f → FitsFifo efifo (takenOf tc f)
 unfolding takenOf
 fits-taken efifo true f p = fits-flagged efifo false true emptied (fits-emptied efifo)
 fits-taken efifo false f p = fits-flagged efifo _ _ _ (fits-popped efifo f p)
 
-pub fits-opened : (efifo : Bool) (f : Fifo) → Fits efifo f → Fits efifo (openedOf f)
+pub fits-opened : (efifo : Bool) (f : Fifo) → FitsFifo efifo f → FitsFifo efifo (openedOf f)
 unfolding openedOf
 fits-opened efifo f p = fits-flagged efifo true (f .tc) f p
 
-pub fits-given : (efifo tc : Bool) (byte : ℕ) (f : Fifo) → Fits efifo f → Fits efifo (givenOf efifo tc byte f)
+pub fits-given : (efifo tc : Bool) (byte : ℕ) (f : Fifo) → FitsFifo efifo f → FitsFifo efifo (givenOf efifo tc byte f)
 unfolding givenOf
 fits-given efifo tc byte f p =
-    by-test (fullOf efifo f) (Fits efifo) _ _ (λ t. fits-flagged efifo false (f .tc) f p)
+    by-test (fullOf efifo f) (FitsFifo efifo) _ _ (λ t. fits-flagged efifo false (f .tc) f p)
     (λ t. fits-flagged efifo _ _ _ (fits-pushed efifo byte f t p))
 
-pub fits-drawn : (efifo : Bool) (fifothr : ℕ) (f : Fifo) → Fits efifo f → Fits efifo (drawnOf efifo fifothr f)
+pub fits-drawn : (efifo : Bool) (fifothr : ℕ) (f : Fifo) → FitsFifo efifo f → FitsFifo efifo (drawnOf efifo fifothr f)
 unfolding drawnOf
 fits-drawn efifo fifothr f p = fits-flagged efifo _ _ _ (fits-popped efifo f p)
 
 -- FIFOs that hold the same bytes and have the same request are the same
 pub held-tells : (efifo : Bool) (f g : Fifo)
-    → Fits efifo f → Fits efifo g → held f ≡ held g → f .asks ≡ g .asks → f .tc ≡ g .tc → f ≡ g
+    → FitsFifo efifo f → FitsFifo efifo g → held f ≡ held g → f .asks ≡ g .asks → f .tc ≡ g .tc → f ≡ g
 held-tells efifo f g p q e asks tc =
     let m : capacityOf efifo ≤ 16 = capacity-most efifo in
     let n : f .count ≡ g .count =

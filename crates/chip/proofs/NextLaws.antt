@@ -9,7 +9,7 @@ use lib.Dec.{eqb}
 use Rattle.image.specs.declared.slot.Id.{Id}
 use Rattle.chip.specs.declared.next.Next.{Next}
 use Rattle.chip.specs.declared.next.Next.the-variants.{Ended, PastEot, OtherSide, SameSide}
-use Rattle.chip.specs.Next.{nextOf, advancedOf, addressOf, turned}
+use Rattle.chip.specs.Next.{nextOf, advancedOf, nextAddress, turned}
 use Rattle.image.proofs.TestLaws.{by-test}
 
 module _ (id : Id) (eot : ℕ) (mt : Bool) (side step : ℕ) where
@@ -63,7 +63,7 @@ module _ (id : Id) (eot : ℕ) (mt : Bool) (side step : ℕ) where
 abbrev chosen : Bool → Bool → Bool → Id → Next
 chosen tc at turns a = cond tc (Ended a) (cond at (cond turns (OtherSide a) (PastEot a)) (SameSide a))
 
-address : (tc at turns : Bool) (a : Id) → addressOf (chosen tc at turns a) ≡ a
+address : (tc at turns : Bool) (a : Id) → nextAddress (chosen tc at turns a) ≡ a
 address true at turns a = refl
 address false true true a = refl
 address false true false a = refl
@@ -71,7 +71,7 @@ address false false turns a = refl
 
 -- 01 Easy 1: whatever follows, its address is the one of `advancedOf`, so R is advanced exactly once
 pub next-address : (id : Id) (eot : ℕ) (mt : Bool) (side step : ℕ) (tc : Bool)
-    → addressOf (nextOf id eot mt side step tc) ≡ advancedOf id eot mt side step
+    → nextAddress (nextOf id eot mt side step tc) ≡ advancedOf id eot mt side step
 unfolding nextOf
 next-address id eot mt side step tc = address tc (eqb (id .r) eot) (mt && eqb side 0) (advancedOf id eot mt side step)
 

@@ -27,25 +27,25 @@ kindOf n =
     Unknown))))))))))))
 
 -- 01 Commands: how many bytes each has, its code among them; an unknown code is one byte long (house)
-abbrev pub bytesOf : Kind → ℕ
-bytesOf Unknown = 1
-bytesOf ReadData = 9
-bytesOf ReadDeleted = 9
-bytesOf WriteData = 9
-bytesOf WriteDeleted = 9
-bytesOf ReadId = 2
-bytesOf Format = 6
-bytesOf Recalibrate = 2
-bytesOf SenseInterrupt = 1
-bytesOf Specify = 3
-bytesOf SenseDrive = 2
-bytesOf Seek = 3
-bytesOf Version = 1
-bytesOf Configure = 4
+abbrev pub byteCount : Kind → ℕ
+byteCount Unknown = 1
+byteCount ReadData = 9
+byteCount ReadDeleted = 9
+byteCount WriteData = 9
+byteCount WriteDeleted = 9
+byteCount ReadId = 2
+byteCount Format = 6
+byteCount Recalibrate = 2
+byteCount SenseInterrupt = 1
+byteCount Specify = 3
+byteCount SenseDrive = 2
+byteCount Seek = 3
+byteCount Version = 1
+byteCount Configure = 4
 
 -- 01 Form table: from command code to kind and byte count
 unfoldable pub entryOf : ℕ → Entry
-entryOf n = record { kind = kindOf n; bytes = bytesOf (kindOf n) }
+entryOf n = record { kind = kindOf n; bytes = byteCount (kindOf n) }
 
 -- 01 Commands: 80 is MT, 20 is SK
 abbrev pub mtOf : ℕ → Bool
@@ -90,8 +90,8 @@ kindNumbered n =
     Unknown))))))))))))
 
 -- house: a line of the table, ten times the kind's number and the byte count
-abbrev pub lineOf : Kind → ℕ
-lineOf k = 10 * kindNumber k + bytesOf k
+abbrev pub tableLine : Kind → ℕ
+tableLine k = 10 * kindNumber k + byteCount k
 
 -- how many of the codes below n are known
 unfoldable pub knownBelow : ℕ → ℕ

@@ -15,7 +15,7 @@ use Rattle.chip.specs.Stepping.{stepTicks}
 abbrev pub chr : ℕ → ℕ → ℕ → Id
 chr c h r = record { c = c; h = h; r = r; n = 2 }
 
-pub record CheckedExamples : Type 0 where
+pub record ChipExamples : Type 0 where
   -- 01 Example 1: SRT 0, 13, 15: 1000, 188, 63
   pub ex1-srt-0 : stepTicks 0 ≡ 1000
   pub ex1-srt-13 : stepTicks 13 ≡ 188

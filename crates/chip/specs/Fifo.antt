@@ -89,12 +89,12 @@ drawnOf efifo fifothr f =
 
 -- house: what every FIFO reached from an empty one keeps to: the array has its sixteen, the count is not above the
 -- capacity (01 Refusals 4), and past the count stand zeros, so that FIFOs that hold alike are equal
-pub record Fits (efifo : Bool) (f : Fifo) : Type 0 where
+pub record FitsFifo (efifo : Bool) (f : Fifo) : Type 0 where
   pub sixteen : length (f .bytes) ≡ 16
   pub within : f .count ≤ capacityOf efifo
   pub past : drop (f .count) (f .bytes) ≡ replicate (16 - f .count) 0
 
 -- 01 FIFO: TC has come and the request is off
-pub record Over (f : Fifo) : Type 0 where
+pub record TcOver (f : Fifo) : Type 0 where
   pub tc : f .tc ≡ true
   pub quiet : f .asks ≡ false

@@ -1,4 +1,4 @@
--- The sector after this one: document 01, Data commands, "Next", and of "Result" the address where Next ends the
+-- The sector onByOne this one: document 01, Data commands, "Next", and of "Result" the address where Next ends the
 -- command. The status bytes of each end are said where the result is made.
 -- Assumes nothing.
 use Prim.Native.Nat.{ℕ, _+_, _-_, _*_, _/_, _%_}
@@ -13,8 +13,8 @@ abbrev pub afterBy : ℕ → ℕ → ℕ
 afterBy step x = (x + step) % 256
 
 -- and one on
-abbrev pub after : ℕ → ℕ
-after x = afterBy 1 x
+abbrev pub onByOne : ℕ → ℕ
+onByOne x = afterBy 1 x
 
 -- 01 Next: the lowest bit turned, the other seven as they are
 abbrev pub turned : ℕ → ℕ
@@ -26,7 +26,7 @@ unfoldable pub advancedOf : Id → ℕ → Bool → ℕ → ℕ → Id
 advancedOf id eot mt side step =
     cond (eqb (id .r) eot)
     (record {
-      c = cond (mt && eqb side 0) (id .c) (after (id .c));
+      c = cond (mt && eqb side 0) (id .c) (onByOne (id .c));
       h = cond mt (turned (id .h)) (id .h);
       r = 1;
       n = id .n;
@@ -43,8 +43,8 @@ nextOf id eot mt side step tc =
     (SameSide (advancedOf id eot mt side step)))
 
 -- the address that a case carries
-abbrev pub addressOf : Next → Id
-addressOf (Ended a) = a
-addressOf (PastEot a) = a
-addressOf (OtherSide a) = a
-addressOf (SameSide a) = a
+abbrev pub nextAddress : Next → Id
+nextAddress (Ended a) = a
+nextAddress (PastEot a) = a
+nextAddress (OtherSide a) = a
+nextAddress (SameSide a) = a

@@ -1,7 +1,7 @@
 // The command codes: which command each of the 256 is, and how many bytes it has (01 Commands).
 use crate::table::CODES;
 ghost use mathlib.Core.Path.{_≡_};
-ghost use Rattle.chip.specs.Commands.{kindOf, entryOf, lineOf, kindNumber, kindNumbered, mtOf, skOf};
+ghost use Rattle.chip.specs.Commands.{kindOf, entryOf, tableLine, kindNumber, kindNumbered, mtOf, skOf};
 
 pub enum Kind {
     Unknown,
@@ -68,7 +68,7 @@ pub fn kind_numbered(n: u8) -> Kind
 }
 
 fn line_at(code: u8) -> u8
-    ensures { λ r. ⌜ r ≡ lineOf (kindOf code) ⌝ }
+    ensures { λ r. ⌜ r ≡ tableLine (kindOf code) ⌝ }
 {
     CODES[code as usize]
 }

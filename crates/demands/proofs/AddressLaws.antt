@@ -9,12 +9,12 @@ use lib.Dec.{eqb}
 use borrow.Author.Tests.{eq-eqb, ne-eqb}
 use Rattle.image.proofs.TestLaws.{by-test, le-or-lt}
 use Rattle.image.specs.declared.slot.Id.{Id}
-use Rattle.chip.specs.Next.{after, advancedOf}
+use Rattle.chip.specs.Next.{onByOne, advancedOf}
 use Rattle.sectors.specs.declared.order.Transfer.{Transfer}
 use Rattle.demands.specs.PowerCut.{Aim, onward, aimNo}
 use Rattle.demands.proofs.CountLaws.{dist, dist-self}
 
-dist-one : (r e : ℕ) → r < 256 → e < 256 → (r ≡ e → ⊥) → (dist r (after r) ≡ 1) × (1 ≤ dist r e)
+dist-one : (r e : ℕ) → r < 256 → e < 256 → (r ≡ e → ⊥) → (dist r (onByOne r) ≡ 1) × (1 ≤ dist r e)
 unfolding dist
 dist-one r e h k n = (omega arith, go (le-or-lt 1 ((e + (256 - r)) % 256)))
   where
@@ -24,7 +24,7 @@ dist-one r e h k n = (omega arith, go (le-or-lt 1 ((e + (256 - r)) % 256)))
 
 -- one on, while EOT lies farther
 dist-on : (r v e : ℕ) → r < 256 → v < 256 → e < 256 → (v ≡ e → ⊥) → dist r v ≤ dist r e
-    → (dist r (after v) ≡ dist r v + 1) × (dist r v + 1 ≤ dist r e)
+    → (dist r (onByOne v) ≡ dist r v + 1) × (dist r v + 1 ≤ dist r e)
 unfolding dist
 dist-on r v e hr hv he n l = (
   omega (arith, go (le-or-lt ((v + (256 - r)) % 256 + 1) ((e + (256 - r)) % 256))),
@@ -64,7 +64,7 @@ module _ (transfer : Transfer) (aim : Aim) where
 
   -- below EOT the side stays and R is one more
   onward-step : (aim .id .r ≡ transfer .eot → ⊥)
-      → (onward transfer aim .side ≡ aim .side) × (onward transfer aim .id .r ≡ after (aim .id .r))
+      → (onward transfer aim .side ≡ aim .side) × (onward transfer aim .id .r ≡ onByOne (aim .id .r))
   unfolding advancedOf
   onward-step n = simp (ne-eqb (aim .id .r) (transfer .eot) n) (refl, refl)
 

@@ -28,7 +28,7 @@ use Rattle.image.proofs.LayoutLaws.{row-once, size-ge}
 use Rattle.image.proofs.TestLaws.{by-test, both, or-right}
 use Rattle.chip.specs.declared.fifo.Fifo.{Fifo}
 use Rattle.chip.specs.Fifo.{frontOf}
-use Rattle.chip.specs.Next.{after}
+use Rattle.chip.specs.Next.{onByOne}
 use Rattle.chip.proofs.NextLaws.{advanced-below, advanced-r-at-eot}
 use Rattle.sectors.specs.declared.order.Job.{Job}
 use Rattle.sectors.specs.declared.order.Job.the-variants.{Identify, Move, Format}
@@ -50,12 +50,12 @@ use Rattle.sectors.specs.declared.work.Then.the-variants.{Ends, Works}
 use Rattle.sectors.specs.declared.work.Verdict.{Verdict}
 use Rattle.sectors.specs.declared.work.Work.{Work}
 use Rattle.sectors.specs.declared.work.Work.the-variants.{Identifying, Moving, Formatting}
-use Rattle.engine.specs.First.{changes, misplanned, gateOf, taskOf, movingOf, startOf, enteredOf, beginOf}
+use Rattle.engine.specs.First.{changes, misplanned, gateOf, taskOf, movingOf, startJob, enteredOf, beginOf}
 use Rattle.engine.specs.Format.{formatEnd, formsOf, formAwait, addressPut, addressOf, clearOn, formedOf, fillOf, clearOf, formOf}
 use Rattle.engine.specs.ReadId.{noIdOf, noIdHere, idHere, identifiedOf, identifyOf}
 use Rattle.sectors.specs.Result.{endOf, moveEnd, moveFails, goesOf}
 use Rattle.sectors.specs.Search.{slotOf, matches, secondPass, passesAfter}
-use Rattle.engine.specs.Step.{siteOf, lostOf, workOf, goOnOf}
+use Rattle.engine.specs.Step.{siteOf, lostOf, workStep, goOnOf}
 use Rattle.sectors.specs.Track.{hasTrack, staysOf, nextSlot, markPlace, dataPlace, sectorBytes}
 use Rattle.sectors.specs.Write.{writtenMark}
 use Rattle.demands.specs.EndsInTime.{boundOf}
@@ -71,9 +71,9 @@ cost g = 2 * g .slots + sizeOf (g .n) + 70
 unfoldable pub ahead : List ℕ → Site → ℕ → ℕ → ℕ → ℕ
 ahead img site head r eot = count (λ i. near r eot (slotOf img site head i .id .r)) (site .disk .slots)
 
--- of the sectors after the one in hand, on this side
+-- of the sectors onByOne the one in hand, on this side
 unfoldable pub later : List ℕ → Site → ℕ → ℕ → ℕ → ℕ
-later img site head r eot = cond (eqb r eot) 0 (ahead img site head (after r) eot)
+later img site head r eot = cond (eqb r eot) 0 (ahead img site head (onByOne r) eot)
 
 -- the other side is still to come
 unfoldable pub turnsLeft : Bool → ℕ → ℕ
@@ -175,7 +175,7 @@ module _ (img : List ℕ) (site : Site) (head : ℕ) where
   unfolding later
   later-last r eot e = rw (eq-eqb r eot e)
 
-  later-step : (r eot : ℕ) → (r ≡ eot → ⊥) → later img site head r eot ≡ ahead img site head (after r) eot
+  later-step : (r eot : ℕ) → (r ≡ eot → ⊥) → later img site head r eot ≡ ahead img site head (onByOne r) eot
   unfolding later
   later-step r eot n = rw (ne-eqb r eot n)
 
@@ -316,7 +316,7 @@ module _ (img : List ℕ) (head : ℕ) (site : Site) where
 
     later-same : (r eot : ℕ) → later jmg site head r eot ≡ later img site head r eot
     unfolding later
-    later-same r eot = rw (ahead-same (after r) eot)
+    later-same r eot = rw (ahead-same (onByOne r) eot)
 
     stage-same : (task : Task) (stage : Stage) → stageLeft jmg head site task stage ≡ stageLeft img head site task stage
     unfolding stageLeft
@@ -354,7 +354,7 @@ module _ (img : List ℕ) (head slot : ℕ) (site : Site) (task : Task) (fifo : 
       rw (
         e,
         advanced-below (task .id) (task .transfer .eot) (task .transfer .mt) (site .side) 1 n,
-        ahead-same img head site (storedIn effect img) s (after (task .id .r)) (task .transfer .eot),
+        ahead-same img head site (storedIn effect img) s (onByOne (task .id .r)) (task .transfer .eot),
         later-step img site head (task .id .r) (task .transfer .eot) n,
       )
       (omega arith)
@@ -630,7 +630,7 @@ module _ (img : List ℕ) (head : ℕ) (site : Site) (plan : Plan) (fifo : Fifo)
   form-falls (Filling slot done) efifo fifothr w = fill-falls slot done efifo fifothr w
   form-falls (Clearing slot) efifo fifothr w = clear-on-falls (Clearing slot) slot _ w (λ k. omega arith)
 
--- a tick after the first, of any work: fewer ticks are left
+-- a tick onByOne the first, of any work: fewer ticks are left
 module _ (img : List ℕ) (head : ℕ) (fifo : Fifo) (efifo : Bool) (fifothr : ℕ) where
   abbrev Work-falls : Work → Step → Type 0
   Work-falls work o = Falls (siteOf work .disk) img head (workLeft img head work) o
@@ -645,8 +645,8 @@ module _ (img : List ℕ) (head : ℕ) (fifo : Fifo) (efifo : Bool) (fifothr : �
       end-falls _ img head _ _ Nothing (work-pos img head (Formatting site plan form) w)
 
   work-falls : (work : Work) → 0 < siteOf work .disk .slots → ProperWork work
-      → Work-falls work (workOf work head img fifo efifo fifothr)
-  unfolding workOf identifyOf workLeft
+      → Work-falls work (workStep work head img fifo efifo fifothr)
+  unfolding workStep identifyOf workLeft
   work-falls (Identifying site slot round) some w = identified-falls img head site fifo slot round w _ _
   work-falls (Moving site task stage) some w =
       rule-falls head img efifo fifothr site task fifo some (w .0) stage _
@@ -684,8 +684,8 @@ module _ (g : Geometry) (img : List ℕ) (head : ℕ) (fifo : Fifo) (drive side 
     proper = (refl, ((r, eot), (some, omega arith)));
   }
 
-  start-falls : (job : Job) → ProperJob job → misplanned job g ≡ false → First-falls (startOf job first-site fifo)
-  unfolding startOf workLeft first-site
+  start-falls : (job : Job) → ProperJob job → misplanned job g ≡ false → First-falls (startJob job first-site fifo)
+  unfolding startJob workLeft first-site
   start-falls Identify p m =
       record { less = omega (arith, bound-is g, cost-is g); proper = (refl, (some, omega arith)) }
   start-falls (Move transfer id) p m = moving-falls (transfer .pass) transfer id (p .0) (p .1)

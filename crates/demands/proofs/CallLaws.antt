@@ -11,7 +11,7 @@ use Rattle.image.proofs.TestLaws.{by-test}
 use Rattle.image.specs.Lent.{pickOf}
 use Rattle.chip.specs.declared.fifo.Fifo.{Fifo}
 use Rattle.chip.specs.declared.refusal.Refusal.{Refusal}
-use Rattle.chip.specs.Fifo.{Fits}
+use Rattle.chip.specs.Fifo.{FitsFifo}
 use Rattle.chip.proofs.FifoLaws.{handed-fits}
 use Rattle.drive.specs.declared.Drive.{Drive}
 use Rattle.sectors.specs.declared.order.Order.{Order}
@@ -30,7 +30,7 @@ use Rattle.fdc.specs.Answer.{answerOf}
 use Rattle.fdc.specs.Calls.{powerOn}
 use Rattle.fdc.specs.Data.{phaseToHost, phaseFromHost}
 use Rattle.fdc.specs.Record.{freshOf, driveAt}
-use Rattle.fdc.specs.Ticks.{seenOf, decidedOf, startOf, workOf, decideIn, decideOf, ruledOf, tickOf}
+use Rattle.fdc.specs.Ticks.{seenOf, decidedOf, startTick, workTick, decideIn, decideOf, ruledOf, tickOf}
 use Rattle.reached.specs.Moves.{Calm}
 use Rattle.reached.specs.Runs.{Call, powers, reads, writes, takes, gives, ticks, notes, answerTo, after}
 use Rattle.reached.proofs.GoodLaws.{good-valid}
@@ -57,7 +57,7 @@ pub tick-starts : (a b : List ℕ) (c : Controller) (order : Order) → Quiet c 
     (beginOf order (seenOf (c .registers .dor) (order .drive) (pickOf (order .drive) a b))
     (driveAt (order .drive % 4) (c .drives) .head) (c .fifo))
     c
-unfolding decideIn startOf
+unfolding decideIn startTick
 tick-starts a b c order q e =
     tick-decides a b c q (ap atWork e) ∙ ap (λ (p : Phase). decideIn p a b c) e
 
@@ -68,7 +68,7 @@ pub tick-works : (a b : List ℕ) (c : Controller) (work : Work) → Quiet c →
     (driveAt (driveOf work % 4) (c .drives) .head) (pickOf (driveOf work) a b) (c .fifo) (c .registers .efifo)
     (c .registers .fifothr))
     c
-unfolding decideIn workOf
+unfolding decideIn workTick
 tick-works a b c work q e =
     tick-decides a b c q (ap atWork e) ∙ ap (λ (p : Phase). decideIn p a b c) e
 
@@ -232,7 +232,7 @@ module _ (call : Call) (c : Controller) (w : atWork (c .phase) ≡ true) where
   by-calm n calm (on p f t x) = keeps (λ head0 head1 e. calm-stays call calm (by-power head0 head1 e)) n p f t
 
   -- what a call that may hand the host a byte hands over
-  module _ (e : Controller) (m : MayTake call) (fits : Fits (c .registers .efifo) (c .fifo)) where
+  module _ (e : Controller) (m : MayTake call) (fits : FitsFifo (c .registers .efifo) (c .fifo)) where
     restarts-none : {A : Type 0} → Restarts call → A
     restarts-none (by-power head0 head1 q) = absurd (rw q at m)
     restarts-none (by-dor byte q held) = absurd (rw q at m)

@@ -8,7 +8,7 @@ use mathlib.Core.Logic.{_⊎_, inl, inr}
 use mathlib.Core.Path.{_≡_, refl}
 use lib.Dec.{leb}
 use borrow.Author.Tests.{leb-true, le-leb, lt-leb}
-use Rattle.chip.specs.Next.{after}
+use Rattle.chip.specs.Next.{onByOne}
 use Rattle.image.proofs.TestLaws.{le-or-lt}
 
 abbrev pub bit : Bool → ℕ
@@ -75,7 +75,7 @@ unfolding dist
 dist-self r h = omega arith
 
 -- one step up: every other number is one nearer, and r itself is farthest
-pub dist-next : (r v : ℕ) → r < 256 → (dist (after r) v + 1 ≡ dist r v) ⊎ ((dist r v ≡ 0) × (dist (after r) v ≡ 255))
+pub dist-next : (r v : ℕ) → r < 256 → (dist (onByOne r) v + 1 ≡ dist r v) ⊎ ((dist r v ≡ 0) × (dist (onByOne r) v ≡ 255))
 unfolding dist
 dist-next r v h = go ((r + 1) % 256) (le-or-lt 1 ((v + (256 - r)) % 256)) (omega arith)
   where
@@ -98,15 +98,15 @@ unfolding near
 near-self r e h = le-leb (dist r r) (dist r e) (omega (arith, dist-self r h))
 
 -- what is still to come was to come
-pub near-next : (r e v : ℕ) → r < 256 → e < 256 → (r ≡ e → ⊥) → near (after r) e v ≡ true → near r e v ≡ true
+pub near-next : (r e v : ℕ) → r < 256 → e < 256 → (r ≡ e → ⊥) → near (onByOne r) e v ≡ true → near r e v ≡ true
 unfolding near
 near-next r e v h k n t = go (dist-next r v h) (dist-next r e h)
   where
-    t′ : dist (after r) v ≤ dist (after r) e
+    t′ : dist (onByOne r) v ≤ dist (onByOne r) e
     t′ = leb-true _ _ t
 
-    go : (dist (after r) v + 1 ≡ dist r v) ⊎ ((dist r v ≡ 0) × (dist (after r) v ≡ 255))
-        → (dist (after r) e + 1 ≡ dist r e) ⊎ ((dist r e ≡ 0) × (dist (after r) e ≡ 255))
+    go : (dist (onByOne r) v + 1 ≡ dist r v) ⊎ ((dist r v ≡ 0) × (dist (onByOne r) v ≡ 255))
+        → (dist (onByOne r) e + 1 ≡ dist r e) ⊎ ((dist r e ≡ 0) × (dist (onByOne r) e ≡ 255))
         → leb (dist r v) (dist r e) ≡ true
     go (inl a) (inl b) = le-leb (dist r v) (dist r e) (omega (arith, t′))
     go (inr a) (inl b) = le-leb (dist r v) (dist r e) (omega arith)
@@ -114,13 +114,13 @@ near-next r e v h k n t = go (dist-next r v h) (dist-next r e h)
     go (inr a) (inr b) = absurd (n (dist-zero r e h k (b .0)))
 
 -- and the number sought does not come again
-pub near-gone : (r e : ℕ) → r < 256 → e < 256 → (r ≡ e → ⊥) → near (after r) e r ≡ false
+pub near-gone : (r e : ℕ) → r < 256 → e < 256 → (r ≡ e → ⊥) → near (onByOne r) e r ≡ false
 unfolding near
 near-gone r e h k n = go (dist-next r r h) (dist-next r e h)
   where
-    go : (dist (after r) r + 1 ≡ dist r r) ⊎ ((dist r r ≡ 0) × (dist (after r) r ≡ 255))
-        → (dist (after r) e + 1 ≡ dist r e) ⊎ ((dist r e ≡ 0) × (dist (after r) e ≡ 255))
-        → leb (dist (after r) r) (dist (after r) e) ≡ false
+    go : (dist (onByOne r) r + 1 ≡ dist r r) ⊎ ((dist r r ≡ 0) × (dist (onByOne r) r ≡ 255))
+        → (dist (onByOne r) e + 1 ≡ dist r e) ⊎ ((dist r e ≡ 0) × (dist (onByOne r) e ≡ 255))
+        → leb (dist (onByOne r) r) (dist (onByOne r) e) ≡ false
     go (inl a) b = absurd (omega (arith, dist-self r h))
-    go (inr a) (inl b) = lt-leb (dist (after r) r) (dist (after r) e) (omega (arith, dist-lt r e))
+    go (inr a) (inl b) = lt-leb (dist (onByOne r) r) (dist (onByOne r) e) (omega (arith, dist-lt r e))
     go (inr a) (inr b) = absurd (n (dist-zero r e h k (b .0)))

@@ -23,7 +23,7 @@ use Rattle.image.specs.Slot.{idAt}
 use Rattle.chip.specs.declared.fifo.Fifo.{Fifo}
 use Rattle.chip.specs.Fifo.{held, frontOf, drawnOf}
 use Rattle.chip.specs.Next.{advancedOf}
-use Rattle.chip.specs.Fifo.{Fits as FitsFifo}
+use Rattle.chip.specs.Fifo.{FitsFifo}
 use Rattle.sectors.specs.declared.order.Pass.{Pass}
 use Rattle.sectors.specs.declared.order.Pass.the-variants.{Read, Write}
 use Rattle.sectors.specs.declared.order.Transfer.{Transfer}
@@ -44,7 +44,7 @@ use Rattle.engine.specs.Step.{stageOf}
 use Rattle.sectors.specs.Track.{hasTrack, markPlace, dataPlace, nextSlot, sectorBytes}
 use Rattle.sectors.specs.Write.{writtenMark}
 use Rattle.demands.specs.Acknowledged.{AllSafe, Acknowledges}
-use Rattle.demands.specs.History.{Begun, no-one, some-of, History, noted}
+use Rattle.demands.specs.History.{Begun, no-one, some-of, History, notedStore}
 use Rattle.demands.specs.PowerCut.{Aim, aimNo, Followed, Counts, Stands, HalfDone, LeftBy}
 use Rattle.demands.proofs.AddressLaws.{AllBehind, all-step, all-turn, onward-turn, onward-stay}
 use Rattle.demands.proofs.FifoStream.{Open, Stream, open-drawn, stream-told, stream-within, held-drawn, held-dry, held-more, held-none}
@@ -116,15 +116,15 @@ closed at bytes h =
       begun = no-one;
     }
 
-noted-began : (p v at : ℕ) (h : History) → p ≡ at → h .begun ≡ no-one → noted (Store p v) h ≡ grown at [] h
+noted-began : (p v at : ℕ) (h : History) → p ≡ at → h .begun ≡ no-one → notedStore (Store p v) h ≡ grown at [] h
 noted-began p v at h e b = rw (b, e)
 
 noted-grown : (p v at : ℕ) (bytes : List ℕ) (h : History) → p ≡ at + 5 + length bytes → h .begun ≡ some-of at bytes
-    → noted (Store p v) h ≡ grown at (bytes ++ (v ∷ [])) h
+    → notedStore (Store p v) h ≡ grown at (bytes ++ (v ∷ [])) h
 noted-grown p v at bytes h e b = rw (b, ne-eqb p at (λ t. omega arith))
 
 noted-closed : (p v at : ℕ) (bytes : List ℕ) (h : History) → p ≡ at → h .begun ≡ some-of at bytes
-    → noted (Store p v) h ≡ closed at bytes h
+    → notedStore (Store p v) h ≡ closed at bytes h
 noted-closed p v at bytes h e b = rw (b, eq-eqb p at e)
 
 pub some≢none : (at : ℕ) (bytes : List ℕ) → some-of at bytes ≡ no-one → ⊥
@@ -205,7 +205,7 @@ module _ (g : Geometry) (cylinder drive : ℕ) (transfer : Transfer) (aim : Aim)
   OnThen efifo (Works work) fifo img h = OnWork efifo work fifo img h
 
   abbrev pub OnStep : Bool → Step → List ℕ → History → Type 0
-  OnStep efifo o img h = OnThen efifo (o .then) (o .fifo) (storedIn (o .effect) img) (noted (o .effect) h)
+  OnStep efifo o img h = OnThen efifo (o .then) (o .fifo) (storedIn (o .effect) img) (notedStore (o .effect) h)
 
   module _ (fits : Fits g old) (hr : aim .id .r < 256) (he : transfer .eot < 256) (wr : transfer .pass ≡ Write)
       (efifo : Bool) (fifothr : ℕ) where
@@ -341,7 +341,7 @@ module _ (g : Geometry) (cylinder drive : ℕ) (transfer : Transfer) (aim : Aim)
       -- 01 Write: the broken mark
       busy-begins : (slot : ℕ) → FitsFifo efifo fifo → 0 < fifo .count → InHand (aimNow h) slot → h .begun ≡ no-one
           → Busy efifo site task (Storing slot 0) fifo (set img (markPlace site cylinder slot) (writtenMark true task))
-          (noted (Store (markPlace site cylinder slot) (writtenMark true task)) h)
+          (notedStore (Store (markPlace site cylinder slot) (writtenMark true task)) h)
       busy-begins slot f c hand none =
           let p = mark-is slot b in
           let v : writtenMark true task ≡ byteOf (Data (transfer .deleted) true) = rw (b .told-to) in
@@ -360,7 +360,7 @@ module _ (g : Geometry) (cylinder drive : ℕ) (transfer : Transfer) (aim : Aim)
           → v ≡ getD (h .host) (storedCount g h) 0 → Open efifo fifo′ → fifo′ .tc ≡ fifo .tc
           → Stream (h .host) (held fifo′) (storedCount g h + 1) (fifo .tc)
           → Busy efifo site task (Storing slot (done + 1)) fifo′ (set img (dataPlace site cylinder slot done) v)
-          (noted (Store (dataPlace site cylinder slot done) v) h)
+          (notedStore (Store (dataPlace site cylinder slot done) v) h)
       unfolding dataPlace
       busy-puts slot done v fifo′ hand half l e o t s =
           let bytes = half .bytes in

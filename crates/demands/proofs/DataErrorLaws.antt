@@ -19,11 +19,11 @@ use Rattle.sectors.specs.declared.work.Stage.the-variants.{Searching}
 use Rattle.sectors.specs.declared.work.Step.{Step}
 use Rattle.sectors.specs.declared.work.Then.the-variants.{Ends}
 use Rattle.sectors.specs.declared.work.Work.the-variants.{Moving}
-use Rattle.engine.specs.First.{gateOf, taskOf, movingOf, startOf, enteredOf, beginOf}
+use Rattle.engine.specs.First.{gateOf, taskOf, movingOf, startJob, enteredOf, beginOf}
 use Rattle.sectors.specs.Follow.{freshAt}
 use Rattle.sectors.specs.declared.work.Task.{Task}
 use Rattle.sectors.specs.Result.{st0Of, otherBit, movesOf}
-use Rattle.engine.specs.Step.{stageOf, workOf, goOnOf}
+use Rattle.engine.specs.Step.{stageOf, workStep, goOnOf}
 use Rattle.sectors.specs.Track.{hasTrack, staysOf}
 use Rattle.image.specs.declared.disk.Disk.the-variants.{Present}
 use Rattle.image.specs.declared.layout.Geometry.{Geometry}
@@ -48,7 +48,7 @@ use Rattle.fdc.specs.Ticks.{seenOf, settledOf, decidedOf, ruledOf, imageAfter}
 use Rattle.demands.specs.Acknowledged.{resultByte, resultId}
 use Rattle.demands.specs.DataError.{ReadsThere, Spins, DataErrorOrLate, DataErrorAt, DataError, DataErrorInTime}
 use Rattle.demands.specs.EndsInTime.{boundOf}
-use Rattle.demands.specs.History.{Sector, Begun, no-one, some-of, History, fresh, historyOf}
+use Rattle.demands.specs.History.{Sector, Begun, no-one, some-of, History, noHistory, historyOf}
 use Rattle.demands.specs.InTime.{Late, LatePhase, AtTicks}
 use Rattle.demands.specs.PowerCut.{Aim, Stands, Spares, AllFinished, BegunHalf, SparesAll, SparesBegun, LeftBy, Writes, headOf}
 use Rattle.demands.specs.Work.{Real, atWork, Its, imageLeft, Alone, Anyhow}
@@ -61,7 +61,7 @@ use Rattle.demands.proofs.EndsLaws.{ends-in-time-quiet}
 use Rattle.demands.proofs.PowerCutLaws.{power-cut-quiet}
 use Rattle.demands.proofs.CallLaws.{tick-starts, tick-works, calm-keeps}
 use Rattle.demands.proofs.QuietLaws.{quiet-real, quiet-after}
-use Rattle.demands.proofs.FollowLaws.{StartsBroken, OnStage, siteAt, differs, taskIn, Follow, goes, ends, follow-rule}
+use Rattle.demands.proofs.FollowLaws.{StartsBroken, OnStage, siteAt, differs, taskOn, Follow, goes, ends, follow-rule}
 use Rattle.demands.proofs.TickRules.{transfer-rule, beq-same}
 
 -- the result: the data error with the sector's address; or ST1 10, and L, what a late byte stands for
@@ -71,7 +71,7 @@ ErrorOr other site id L c =
     × (resultByte 2 c ≡ otherBit other + 0x20) × (resultId c ≡ id))
     ⊎ ((resultByte 1 c ≡ 0x10) × L)
 
-pub record Over (other : Bool) (site : Site) (id : Id) (L : Type 0) (c : Controller) : Type 0 where
+pub record ReadOver (other : Bool) (site : Site) (id : Id) (L : Type 0) (c : Controller) : Type 0 where
   pub waits : c .phase ≡ Answering true
   pub bytes : ErrorOr other site id L c
 
@@ -84,11 +84,11 @@ pub data Way (order : Order) (g : Geometry) (t : ℕ) (transfer : Transfer) (id 
     (c : Controller) : Type 0 where
   starts : c .phase ≡ Starting order → Way order g t transfer id other L c
   works : (stage : Stage)
-      → c .phase ≡ Working (Moving (siteAt (order .drive) (order .side) g) (taskIn other transfer id stage) stage)
+      → c .phase ≡ Working (Moving (siteAt (order .drive) (order .side) g) (taskOn other transfer id stage) stage)
       → OnStage t stage → Way order g t transfer id other L c
-  over : Over other (siteAt (order .drive) (order .side) g) id L c → Way order g t transfer id other L c
+  over : ReadOver other (siteAt (order .drive) (order .side) g) id L c → Way order g t transfer id other L c
 
-pub record Follows (order : Order) (g : Geometry) (head t : ℕ) (transfer : Transfer) (id : Id) (other : Bool)
+pub record FollowsRead (order : Order) (g : Geometry) (head t : ℕ) (transfer : Transfer) (id : Id) (other : Bool)
     (L : Type 0) (c : Controller) : Type 0
   where
     pub quiet : Quiet c
@@ -112,7 +112,7 @@ module _ (img : List ℕ) (g : Geometry) (disk : diskIn img ≡ Present g) (orde
   -- the first tick: the tests are passed, and the search starts at slot 0
   begun : (fifo : Fifo)
       → beginOf order (Present g) head fifo ≡ movesOf (Searching (freshAt 0)) site (taskOf transfer id) fifo Nothing
-  unfolding beginOf gateOf enteredOf startOf movingOf hasTrack
+  unfolding beginOf gateOf enteredOf startJob movingOf hasTrack
   begun fifo =
       simp (
         job,
@@ -125,7 +125,7 @@ module _ (img : List ℕ) (g : Geometry) (disk : diskIn img ≡ Present g) (orde
   gone-on : (task : Task) (stage : Stage) (fifo : Fifo) (efifo : Bool) (fifothr : ℕ)
       → goOnOf (Moving site task stage) (Present g) head img fifo efifo fifothr
       ≡ stageOf stage site task head img fifo efifo fifothr
-  unfolding goOnOf staysOf workOf
+  unfolding goOnOf staysOf workStep
   gone-on task stage fifo efifo fifothr = simp (same-geometry g)
 
   -- what a late byte stands for
@@ -145,7 +145,7 @@ module _ (img : List ℕ) (g : Geometry) (disk : diskIn img ≡ Present g) (orde
   no-effect o (goes stage fifo w e) = rw e
   no-effect o (ends verdict h e) = rw e
 
-  module _ (a b′ : List ℕ) (c : Controller) (f : Follows order g head t transfer id other L c)
+  module _ (a b′ : List ℕ) (c : Controller) (f : FollowsRead order g head t transfer id other L c)
       (motor : motorIn (c .registers .dor) (order .drive) ≡ true) (lent : pickOf (order .drive) a b′ ≡ img) (late-is : LateIs L c) where
     heads : driveAt (order .drive % 4) (c .drives) .head ≡ head
     heads = rw (mod-eq-of-lt {n = order .drive} {m = 4} low) (f .head-is)
@@ -169,20 +169,20 @@ module _ (img : List ℕ) (g : Geometry) (disk : diskIn img ≡ Present g) (orde
     step-of w (starts p) = (_, first-step p, goes (Searching (freshAt 0)) (c .fifo) (omega arith) refl)
     step-of w (works stage p on) = (
       _,
-      later-step (taskIn other transfer id stage) stage p,
+      later-step (taskOn other transfer id stage) stage p,
       excused (stage-late stage p)
           (follow-rule g img head (order .drive) (order .side) t kind transfer id b (c .registers .efifo)
           (c .registers .fifothr) (c .fifo) stage _ on (transfer-rule head img (c .registers .efifo)
-          (c .registers .fifothr) site (taskIn other transfer id stage) (c .fifo) stage)),
+          (c .registers .fifothr) site (taskOn other transfer id stage) (c .fifo) stage)),
     )
       where
-        stage-late : (stage : Stage) → c .phase ≡ Working (Moving site (taskIn other transfer id stage) stage)
-            → Late (c .registers .efifo) site (taskIn other transfer id stage) (c .fifo) stage → L
+        stage-late : (stage : Stage) → c .phase ≡ Working (Moving site (taskOn other transfer id stage) stage)
+            → Late (c .registers .efifo) site (taskOn other transfer id stage) (c .fifo) stage → L
         stage-late stage p l = late-is (rw p l)
     step-of w (over d) = absurd (false≢true (sym (ap atWork (d .waits)) ∙ w))
 
     follow-tick : atWork (c .phase) ≡ true
-        → Follows order g head t transfer id other L (after (ticks a b′) c) × (imageAfter (order .drive) a b′ c img ≡ img)
+        → FollowsRead order g head t transfer id other L (after (ticks a b′) c) × (imageAfter (order .drive) a b′ c img ≡ img)
     follow-tick w =
         let (o, e, on) = step-of w (f .way) in (
           record {
@@ -207,7 +207,7 @@ module _ (img : List ℕ) (g : Geometry) (disk : diskIn img ≡ Present g) (orde
 
   -- a calm call that is no tick
   follow-call : (call : Call) (c : Controller) → Quiet c → atWork (c .phase) ≡ true → NoTick call → Calm call
-      → Follows order g head t transfer id other L c → Follows order g head t transfer id other L (after call c)
+      → FollowsRead order g head t transfer id other L c → FollowsRead order g head t transfer id other L (after call c)
   follow-call call c q w n calm f =
       let k = calm-keeps call c q w n calm in
       record {
@@ -222,14 +222,14 @@ module _ (img : List ℕ) (g : Geometry) (disk : diskIn img ≡ Present g) (orde
       go k (over d) = absurd (false≢true (sym (ap atWork (d .waits)) ∙ w))
 
   -- what is over has ended so
-  over-so : (c : Controller) → Way order g t transfer id other L c → atWork (c .phase) ≡ false → Over other site id L c
+  over-so : (c : Controller) → Way order g t transfer id other L c → atWork (c .phase) ≡ false → ReadOver other site id L c
   over-so c (starts p) a = absurd (true≢false (sym (ap atWork p) ∙ a))
   over-so c (works stage p on) a = absurd (true≢false (sym (ap atWork p) ∙ a))
   over-so c (over d) a = d
 
   -- with the image that stays as it is
   abbrev Course : Controller → List ℕ → Type 0
-  Course c image = (image ≡ img) × Follows order g head t transfer id other L c
+  Course c image = (image ≡ img) × FollowsRead order g head t transfer id other L c
 
   tick-course : (a b : List ℕ) (c : Controller) (image : List ℕ) → Quiet c → atWork (c .phase) ≡ true
       → motorIn (c .registers .dor) (order .drive) ≡ true → pickOf (order .drive) a b ≡ image → LateIs L c
@@ -239,11 +239,11 @@ module _ (img : List ℕ) (g : Geometry) (disk : diskIn img ≡ Present g) (orde
       (rw same still, f′)
 
   -- if it ends, it ends so
-  pub ends-so : (calls : List Call) (c : Controller) → Follows order g head t transfer id other L c
+  pub ends-so : (calls : List Call) (c : Controller) → FollowsRead order g head t transfer id other L c
       → Spins (order .drive) calls c → Alone (order .drive) img calls c → AtTicks (LateIs L) calls c
-      → command.Ends Anyhow calls c → command.Ends (Over other site id L) calls c
+      → command.Ends Anyhow calls c → command.Ends (ReadOver other site id L) calls c
   ends-so calls c f spins alone late-is over-by =
-      course-ends (order .drive) (LateIs L) Course (Over other site id L)
+      course-ends (order .drive) (LateIs L) Course (ReadOver other site id L)
       (λ call e image q w n calm k. (k .0, follow-call call e q w n calm (k .1))) tick-course
       (λ e image k. over-so e (k .1 .way)) calls c img (f .quiet) (refl, f) spins alone late-is over-by
 
@@ -338,7 +338,7 @@ module _ (g : Geometry) (cylinder : ℕ) (transfer : Transfer) (aim : Aim) (old 
 module _ (c : Controller) (qc : Quiet c) (order : Order) (transfer : Transfer) (id : Id)
     (w : Writes c order transfer id) (old : List ℕ) (g : Geometry) (sound : Sound g old) (calls : List Call)
     (its : Its calls c) (alone : Alone (order .drive) old calls c) (at : ℕ) (bytes : List ℕ)
-    (q : historyOf calls c fresh .begun ≡ some-of at bytes) (e : Controller) (qe : Quiet e) (order′ : Order) (transfer′ : Transfer)
+    (q : historyOf calls c noHistory .begun ≡ some-of at bytes) (e : Controller) (qe : Quiet e) (order′ : Order) (transfer′ : Transfer)
     (id′ : Id) (r : ReadsThere e order′ transfer′ id′ g old at)
     (own : (transfer′ .deleted ≡ transfer .deleted) ⊎ (transfer′ .sk ≡ false)) (L : Type 0) where
   abbrev there : Site
@@ -347,7 +347,7 @@ module _ (c : Controller) (qc : Quiet c) (order : Order) (transfer : Transfer) (
   ends-over : (calls′ : List Call) → Spins (order′ .drive) calls′ e
       → Alone (order′ .drive) (imageLeft (order .drive) old calls c) calls′ e → boundOf g ≤ tickCount calls′
       → AtTicks (LateIs L) calls′ e
-      → command.Ends (Over (differs (transfer .deleted) transfer′) there id′ L) calls′ e
+      → command.Ends (ReadOver (differs (transfer .deleted) transfer′) there id′ L) calls′ e
   ends-over calls′ spins alone′ more timely =
       let present = fits-present old g (sound .fits) in
       let img : List ℕ = imageLeft (order .drive) old calls c in
@@ -372,7 +372,7 @@ module _ (transfer written : Transfer) (order : Order) (g : Geometry) (id : Id) 
   abbrev differ : Bool
   differ = differs (written .deleted) transfer
 
-  pub error-at : Over differ (siteAt (order .drive) (order .side) g) id ⊥ c → DataErrorAt order id transfer written c
+  pub error-at : ReadOver differ (siteAt (order .drive) (order .side) g) id ⊥ c → DataErrorAt order id transfer written c
   error-at o = go (o .bytes)
     where
       go : ErrorOr differ (siteAt (order .drive) (order .side) g) id ⊥ c → DataErrorAt order id transfer written c
@@ -388,7 +388,7 @@ module _ (transfer written : Transfer) (order : Order) (g : Geometry) (id : Id) 
       go (inr (a, l)) = absurd l
 
   pub error-or-late : transfer .deleted ≡ written .deleted
-      → Over differ (siteAt (order .drive) (order .side) g) id (Unit {0}) c → DataErrorOrLate c
+      → ReadOver differ (siteAt (order .drive) (order .side) g) id (Unit {0}) c → DataErrorOrLate c
   error-or-late k o = record { waits = o .waits; bytes = go (o .bytes) }
     where
       go : ErrorOr differ (siteAt (order .drive) (order .side) g) id (Unit {0}) c

@@ -13,7 +13,7 @@ use lib.Seq.{drop-append-le, drop-cons, drop-nil, length-take-le}
 use borrow.Author.Tests.{ltb-true, leb-false, lt-leb}
 use Rattle.image.proofs.TestLaws.{both}
 use Rattle.chip.specs.declared.fifo.Fifo.{Fifo}
-use Rattle.chip.specs.Fifo.{capacityOf, writeLevel, fullOf, held, frontOf, emptied, openedOf, givenOf, drawnOf, Fits}
+use Rattle.chip.specs.Fifo.{capacityOf, writeLevel, fullOf, held, frontOf, emptied, openedOf, givenOf, drawnOf, FitsFifo}
 use Rattle.chip.proofs.FifoLaws.{given-held, drawn-held}
 
 -- 01 FIFO, from host: a request is on only before TC and below capacity
@@ -130,7 +130,7 @@ capacity-most : (b : Bool) → capacityOf b ≤ 16
 capacity-most true = omega arith
 capacity-most false = omega arith
 
-module _ (efifo : Bool) (f : Fifo) (fits : Fits efifo f) (host : List ℕ) (k : ℕ) where
+module _ (efifo : Bool) (f : Fifo) (fits : FitsFifo efifo f) (host : List ℕ) (k : ℕ) where
   within : f .count ≤ length (f .bytes)
   within = omega (arith, fits .sixteen, fits .within, capacity-most efifo)
 

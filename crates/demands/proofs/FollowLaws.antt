@@ -100,8 +100,8 @@ otherIn other (Draining sector looks) = other
 otherIn other (Awaiting slot wait) = false
 otherIn other (Storing slot done) = false
 
-abbrev pub taskIn : Bool → Transfer → Id → Stage → Task
-taskIn other transfer id stage = record { transfer = transfer; id = id; other = otherIn other stage }
+abbrev pub taskOn : Bool → Transfer → Id → Stage → Task
+taskOn other transfer id stage = record { transfer = transfer; id = id; other = otherIn other stage }
 
 -- 40, ST1 20, ST2 20 or 60 and the sector's address; or ST1 10, since it came late
 abbrev pub EndsSo : Bool → Site → Id → Type 0 → Verdict → Type 0
@@ -114,7 +114,7 @@ EndsSo other site id L v =
 pub data Follow (other : Bool) (t : ℕ) (site : Site) (transfer : Transfer) (id : Id) (L : Type 0) (o : Step) : Type 0
   where
     goes : (stage : Stage) (fifo : Fifo) → OnStage t stage
-        → o ≡ movesOf stage site (taskIn other transfer id stage) fifo Nothing → Follow other t site transfer id L o
+        → o ≡ movesOf stage site (taskOn other transfer id stage) fifo Nothing → Follow other t site transfer id L o
     ends : (verdict : Verdict) → EndsSo other site id L verdict → o ≡ endsWith verdict Nothing
         → Follow other t site transfer id L o
 
@@ -205,10 +205,10 @@ module _ (g : Geometry) (img : List ℕ) (head drive side t : ℕ) (kind : Bool)
     site = siteAt drive side g
 
     abbrev L : Type 0
-    L = Late efifo site (taskIn other transfer id stage) fifo stage
+    L = Late efifo site (taskOn other transfer id stage) fifo stage
 
     pub follow-rule : OnStage t stage
-        → Rule head img efifo fifothr site (taskIn other transfer id stage) fifo stage o
+        → Rule head img efifo fifothr site (taskOn other transfer id stage) fifo stage o
         → Follow other t site transfer id L o
     follow-rule w (notFound look verdict p m l n x y f e) =
         let u : look .slot ≤ t = rw p at w in

@@ -22,7 +22,7 @@ use Rattle.image.specs.Layout.{sizeOf, offsetOf}
 use Rattle.image.specs.Lent.{pickOf, storedIn, storedAs}
 use Rattle.chip.specs.declared.fifo.Fifo.{Fifo}
 use Rattle.chip.specs.Fifo.{fullOf, held, frontOf, emptied, openedOf, givenOf, drawnOf}
-use Rattle.chip.specs.Fifo.{Fits as FitsFifo}
+use Rattle.chip.specs.Fifo.{FitsFifo}
 use Rattle.sectors.specs.declared.order.Job.the-variants.{Format}
 use Rattle.sectors.specs.declared.order.Order.{Order}
 use Rattle.sectors.specs.declared.order.Plan.{Plan}
@@ -39,7 +39,7 @@ use Rattle.sectors.specs.Result.{endOf}
 use Rattle.sectors.specs.Track.{staysOf, markPlace, dataPlace}
 use Rattle.engine.specs.First.{misplanned, beginOf}
 use Rattle.engine.specs.Format.{doneOf, formatEnd}
-use Rattle.engine.specs.Step.{lostOf, workOf, goOnOf}
+use Rattle.engine.specs.Step.{lostOf, workStep, goOnOf}
 use Rattle.fdc.specs.declared.record.Controller.{Controller}
 use Rattle.fdc.specs.declared.record.Phase.{Phase}
 use Rattle.fdc.specs.declared.record.Phase.the-variants.{Starting, Working, Answering}
@@ -54,7 +54,7 @@ use Rattle.reached.specs.Runs.{Call, powers, reads, writes, takes, gives, ticks
 use Rattle.fdc.specs.Ticks.{seenOf, settledOf, decidedOf, ruledOf, tickOf, imageAfter}
 use Rattle.demands.specs.Acknowledged.{resultByte, resultId}
 use Rattle.demands.specs.FormatScript.{Stored, applied, slotDraws, slotStores, scriptOf, countedBy, storesBy, storesOf, Allowed, LeftByStores, RanOut, FormatSays, FormattedBy, FormatScript}
-use Rattle.demands.specs.History.{History, fresh, noted, historyBy, historyOf}
+use Rattle.demands.specs.History.{History, noHistory, notedStore, historyBy, historyOf}
 use Rattle.demands.specs.PowerCut.{headOf}
 use Rattle.demands.specs.Quiet.{Quiet}
 use Rattle.demands.specs.Work.{atWork, Its, imageBy, imageLeft, Handed, Alone, Real}
@@ -439,7 +439,7 @@ module _ (g : Geometry) (cylinder drive side : ℕ) (plan : Plan) (old : List �
   later-step : (efifo : Bool) (fifothr : ℕ) (form : Form) (fifo : Fifo) (img host : List ℕ) (m : ℕ) (seen : Disk)
       → FitsFifo efifo fifo → Busy efifo form fifo img host m
       → OnStep efifo (goOnOf (Formatting site plan form) seen cylinder img fifo efifo fifothr) img host m
-  unfolding goOnOf workOf lostOf formatEnd endOf
+  unfolding goOnOf workStep lostOf formatEnd endOf
   later-step efifo fifothr form fifo img host m seen f b =
       by-test (staysOf seen g) (λ (o : Step). OnStep efifo o img host m) _ _
       (λ t. busy-rule efifo fifothr fifo img host m f form _ b
@@ -554,9 +554,9 @@ module _ (g : Geometry) (cylinder : ℕ) (order : Order) (plan : Plan) (old : Li
   unfolding answerTo tickOf answerOf imageAfter historyBy decidedOf
   tick-run a b c img h m d o e q u k =
       subst
-      (λ (x : Decision). Run (x .controller) (storedAs (x .drive) drive (x .effect) img) (noted (x .effect) h)
+      (λ (x : Decision). Run (x .controller) (storedAs (x .drive) drive (x .effect) img) (notedStore (x .effect) h)
       (countedBy (x .effect) m)) (sym e)
-      (rw (eq-eqb d drive q) (settled-run (o .then) (o .fifo) c _ (noted (o .effect) h) _ u
+      (rw (eq-eqb d drive q) (settled-run (o .then) (o .fifo) c _ (notedStore (o .effect) h) _ u
       (rw (noted-host (o .effect) h) k)))
 
   pub head-is : (c : Controller) → driveAt drive (c .drives) .head ≡ cylinder
@@ -665,7 +665,7 @@ pub format-script-quiet : FormatScript Quiet
 format-script-quiet c q order plan f old g disk calls its alone =
     let (hd, hs, told) = rw (f .accepted) at (q .proper) in
     run-formatted g (headOf order c) order plan old disk (f .formats) hd
-    (run-all g (headOf order c) order plan old disk (f .formats) hd calls c old fresh 0 q its alone
+    (run-all g (headOf order c) order plan old disk (f .formats) hd calls c old noHistory 0 q its alone
     (to-start (f .accepted) refl refl refl refl))
 
 pub format-script : FormatScript Real

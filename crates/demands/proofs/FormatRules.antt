@@ -29,7 +29,7 @@ use Rattle.sectors.specs.declared.work.Step.{Step}
 use Rattle.sectors.specs.declared.work.Verdict.{Verdict}
 use Rattle.sectors.specs.Result.{st0Of, endOf}
 use Rattle.sectors.specs.Track.{hasTrack, dataPlace, markPlace, sectorBytes}
-use Rattle.engine.specs.First.{changes, misplanned, gateOf, givenId, startOf, enteredOf, beginOf}
+use Rattle.engine.specs.First.{changes, misplanned, gateOf, givenId, startJob, enteredOf, beginOf}
 use Rattle.engine.specs.Format.{formatId, formatEnd, formsOf, laidOf, formAwait, addressPut, addressOf, clearOn, formedOf, fillOf, clearOf, formOf}
 use Rattle.demands.specs.FormatScript.{Allowed}
 use Rattle.demands.specs.InTime.{LateForm}
@@ -90,7 +90,7 @@ module _ (drive side : ℕ) (plan : Plan) (head : ℕ) (fifo : Fifo) where
 
   entered-rule : (disk : Disk)
       → FirstRule disk (enteredOf (gateOf disk (Format plan) side head) (Format plan) drive side head fifo)
-  unfolding gateOf hasTrack enteredOf givenId startOf endOf
+  unfolding gateOf hasTrack enteredOf givenId startJob endOf
   entered-rule Absent = nothing-there (λ g e a. absent≢present g e) refl
   entered-rule (Present g) =
       by-test (not (hasTrack g head side))

@@ -27,7 +27,7 @@ use Rattle.sectors.specs.declared.work.Work.the-variants.{Formatting}
 use Rattle.sectors.specs.Track.{staysOf}
 use Rattle.engine.specs.First.{beginOf}
 use Rattle.engine.specs.Format.{formsOf}
-use Rattle.engine.specs.Step.{workOf, goOnOf}
+use Rattle.engine.specs.Step.{workStep, goOnOf}
 use Rattle.fdc.specs.declared.record.Controller.{Controller}
 use Rattle.fdc.specs.declared.ticks.Decision.{Decision}
 use Rattle.fdc.specs.Commands.{answeredOf}
@@ -39,7 +39,7 @@ use Rattle.fdc.specs.Ticks.{seenOf, settledOf, decidedOf, ruledOf}
 use Rattle.demands.specs.DataError.{Spins}
 use Rattle.demands.specs.FormatScript.{storesBy, Allowed}
 use Rattle.demands.specs.FormatSucceeds.{Formatted, FormatSucceeds}
-use Rattle.demands.specs.History.{History, fresh, historyBy}
+use Rattle.demands.specs.History.{History, noHistory, historyBy}
 use Rattle.demands.specs.InTime.{LateForm, AtTick, AtTicks, Timely, InTime}
 use Rattle.demands.specs.PowerCut.{headOf}
 use Rattle.demands.specs.Quiet.{Quiet}
@@ -85,7 +85,7 @@ module _ (g : Geometry) (cylinder : ℕ) (order : Order) (plan : Plan) (old : Li
     later-well : (form : Form) (dor : ℕ) (img : List ℕ) → motorIn dor drive ≡ true → diskIn img ≡ Present g
         → (LateForm fifo form → ⊥)
         → WellThen (goOnOf (Formatting here plan form) (seenOf dor drive img) cylinder img fifo efifo fifothr .then)
-    unfolding goOnOf workOf seenOf staysOf
+    unfolding goOnOf workStep seenOf staysOf
     later-well form dor img motor there timely =
         rw (motor, there, same-geometry g)
         (rule-well _ (timely-rule cylinder efifo fifothr here plan fifo form _ timely
@@ -182,7 +182,7 @@ module _ (g : Geometry) (cylinder : ℕ) (order : Order) (plan : Plan) (old : Li
 pub format-succeeds-quiet : FormatSucceeds Quiet
 format-succeeds-quiet c q order plan f old g disk ok calls spins alone timely bound =
     let (hd, hs, told) = rw (f .accepted) at (q .proper) in
-    ends-well g (headOf order c) order plan old disk (f .formats) hd ok calls c old fresh 0 q
+    ends-well g (headOf order c) order plan old disk (f .formats) hd ok calls c old noHistory 0 q
     (to-start (f .accepted) refl refl refl refl) (inr (ap atWork (f .accepted))) spins alone timely
     (ends-in-time-quiet c q order (f .accepted) old g disk calls alone bound)
 

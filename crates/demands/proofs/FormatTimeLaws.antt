@@ -15,7 +15,7 @@ use Rattle.image.specs.Disk.{diskIn}
 use Rattle.image.proofs.TestLaws.{by-test}
 use Rattle.chip.specs.declared.fifo.Fifo.{Fifo}
 use Rattle.chip.specs.Fifo.{emptied}
-use Rattle.chip.specs.Fifo.{Fits as FitsFifo}
+use Rattle.chip.specs.Fifo.{FitsFifo}
 use Rattle.sectors.specs.declared.order.Job.the-variants.{Format}
 use Rattle.sectors.specs.declared.order.Order.{Order}
 use Rattle.sectors.specs.declared.order.Plan.{Plan}
@@ -30,7 +30,7 @@ use Rattle.sectors.specs.declared.work.Work.the-variants.{Formatting}
 use Rattle.sectors.specs.Result.{endOf}
 use Rattle.sectors.specs.Track.{staysOf}
 use Rattle.engine.specs.Format.{formatEnd}
-use Rattle.engine.specs.Step.{lostOf, workOf, goOnOf}
+use Rattle.engine.specs.Step.{lostOf, workStep, goOnOf}
 use Rattle.fdc.specs.declared.record.Controller.{Controller}
 use Rattle.fdc.specs.declared.record.Phase.{Phase}
 use Rattle.fdc.specs.declared.record.Phase.the-variants.{Idle, Gathering, Starting, Working, Sensing, Answering}
@@ -42,7 +42,7 @@ use Rattle.fdc.specs.Ticks.{settledOf, decidedOf, ruledOf}
 use Rattle.demands.specs.Acknowledged.{resultByte}
 use Rattle.demands.specs.FormatScript.{slotDraws, storesBy}
 use Rattle.demands.specs.FormatSucceeds.{ServedUpTo, FormatServed, FormatNeverLate}
-use Rattle.demands.specs.History.{History, fresh, historyBy}
+use Rattle.demands.specs.History.{History, noHistory, historyBy}
 use Rattle.demands.specs.InTime.{LateForm, AtTick, AtTicks, Timely, InTime, RequestOff, Prompt}
 use Rattle.demands.specs.PowerCut.{headOf}
 use Rattle.demands.specs.Quiet.{Quiet}
@@ -145,7 +145,7 @@ module _ (g : Geometry) (cylinder : ℕ) (order : Order) (plan : Plan) (old : Li
     later-serves : (form : Form) (seen : Disk) (img : List ℕ)
         → ServesThen (goOnOf (Formatting here plan form) seen cylinder img fifo efifo fifothr .then)
         (goOnOf (Formatting here plan form) seen cylinder img fifo efifo fifothr .fifo)
-    unfolding goOnOf workOf lostOf formatEnd endOf
+    unfolding goOnOf workStep lostOf formatEnd endOf
     later-serves form seen img =
         by-test (staysOf seen g) (λ (o : Step). ServesThen (o .then) (o .fifo)) _ _
         (λ t. rule-serves form _ (form-rule cylinder efifo fifothr here plan fifo form)) (λ t. tt)
@@ -239,7 +239,7 @@ module _ (g : Geometry) (cylinder : ℕ) (order : Order) (plan : Plan) (old : Li
 pub format-served-quiet : FormatServed Quiet
 format-served-quiet c q order plan f old g disk calls alone served =
     let (hd, hs, told) = rw (f .accepted) at (q .proper) in
-    served-timely g (headOf order c) order plan old disk (f .formats) hd calls c old fresh 0 q
+    served-timely g (headOf order c) order plan old disk (f .formats) hd calls c old noHistory 0 q
     (rw (f .accepted) tt) (to-start (f .accepted) refl refl refl refl) alone served
 
 pub format-served : FormatServed Real
@@ -281,7 +281,7 @@ module _ (head : ℕ) (efifo : Bool) (fifothr : ℕ) (at : Site) (plan : Plan) (
 
   later-not-late : (form : Form) (seen : Disk) (img : List ℕ) → (LateForm fifo form → ⊥)
       → NotLate (goOnOf (Formatting at plan form) seen head img fifo efifo fifothr .then)
-  unfolding goOnOf workOf lostOf formatEnd endOf
+  unfolding goOnOf workStep lostOf formatEnd endOf
   later-not-late form seen img timely =
       by-test (staysOf seen (at .disk)) (λ (o : Step). NotLate (o .then)) _ _
       (λ t. rule-not-late _ (timely-rule head efifo fifothr at plan fifo form _ timely

@@ -28,7 +28,7 @@ use Rattle.image.specs.Mark.{byteOf, markOf}
 use Rattle.image.specs.Slot.{idAt}
 use Rattle.chip.specs.declared.fifo.Fifo.{Fifo}
 use Rattle.chip.specs.Fifo.{emptied, takenOf, frontOf}
-use Rattle.chip.specs.Fifo.{Fits as FitsFifo}
+use Rattle.chip.specs.Fifo.{FitsFifo}
 use Rattle.chip.specs.Next.{advancedOf}
 use Rattle.sectors.specs.declared.order.Job.the-variants.{Move}
 use Rattle.sectors.specs.declared.order.Order.{Order}
@@ -50,8 +50,8 @@ use Rattle.sectors.specs.Follow.{freshAt, onSide}
 use Rattle.sectors.specs.Result.{st0Of, otherBit, endOf, moveEnd, moveFails}
 use Rattle.sectors.specs.Search.{withOther}
 use Rattle.sectors.specs.Track.{hasTrack, staysOf, markPlace, dataPlace, nextSlot}
-use Rattle.engine.specs.First.{changes, gateOf, givenId, movingOf, startOf, enteredOf, beginOf}
-use Rattle.engine.specs.Step.{fromHost, lostOf, stageOf, workOf, goOnOf, passFlow}
+use Rattle.engine.specs.First.{changes, gateOf, givenId, movingOf, startJob, enteredOf, beginOf}
+use Rattle.engine.specs.Step.{fromHost, lostOf, stageOf, workStep, goOnOf, passFlow}
 use Rattle.fdc.specs.declared.record.Controller.{Controller}
 use Rattle.fdc.specs.declared.record.Phase.{Phase}
 use Rattle.fdc.specs.declared.record.Phase.the-variants.{Starting, Working, Answering}
@@ -809,7 +809,7 @@ module _ (g : Geometry) (cylinder : ℕ) (order : Order) (transfer : Transfer) (
       )
 
   first-present : Gives (beginOf order (Present g) cylinder emptied) untaken
-  unfolding beginOf enteredOf gateOf startOf givenId endOf
+  unfolding beginOf enteredOf gateOf startJob givenId endOf
   first-present = rw moves-it
       (by-test (not (hasTrack g cylinder (order .side)))
       (λ x. Gives (enteredOf x (Move transfer id) drive (order .side) cylinder emptied) untaken) _ _
@@ -843,7 +843,7 @@ module _ (g : Geometry) (cylinder : ℕ) (order : Order) (transfer : Transfer) (
   later-step : (efifo : Bool) (fifothr : ℕ) (site : Site) (task : Task) (stage : Stage) (f : Fifo) (t : Taken)
       (seen : Disk) → FitsFifo efifo f → Works-on site task stage f t
       → Gives (goOnOf (Moving site task stage) seen cylinder img f efifo fifothr) t
-  unfolding goOnOf workOf lostOf moveFails moveEnd endOf
+  unfolding goOnOf workStep lostOf moveFails moveEnd endOf
   later-step efifo fifothr site task stage f t seen fit b =
       by-test (staysOf seen (site .disk)) (λ (o : Step). Gives o t) _ _
       (λ u.

@@ -17,7 +17,7 @@ use Rattle.image.proofs.TestLaws.{by-test, both, le-or-lt}
 use Rattle.image.specs.declared.layout.Geometry.{Geometry}
 use Rattle.image.specs.Layout.{sizeOf}
 use Rattle.chip.specs.declared.fifo.Fifo.{Fifo}
-use Rattle.chip.specs.Fifo.{capacityOf, fullOf, held, frontOf, emptied, takenOf, filledOf, Fits}
+use Rattle.chip.specs.Fifo.{capacityOf, fullOf, held, frontOf, emptied, takenOf, filledOf, FitsFifo}
 use Rattle.chip.proofs.FifoLaws.{taken-held, filled-held, filled-tc-same}
 use Rattle.sectors.specs.declared.order.Transfer.{Transfer}
 use Rattle.demands.specs.HandedOver.{Taken, untaken, tookOne, OfKind, Comes, AllCome}
@@ -154,7 +154,7 @@ module _ (g : Geometry) (cylinder : ℕ) (transfer : Transfer) (aim : Aim) (img 
   flow-most (flows a b c d e) l = omega (arith, d)
   flow-most (ended a b c d e x y) l = y
 
-  module _ (efifo : Bool) (n done : ℕ) (f : Fifo) (t : Taken) (fits : Fits efifo f) where
+  module _ (efifo : Bool) (n done : ℕ) (f : Fifo) (t : Taken) (fits : FitsFifo efifo f) where
     within : f .count ≤ length (f .bytes)
     within = omega (arith, fits .sixteen, fits .within, capacity-most efifo)
 
@@ -215,7 +215,7 @@ module _ (g : Geometry) (cylinder : ℕ) (transfer : Transfer) (aim : Aim) (img 
         is = c .is;
       }
 
-  pub flow-skip : (efifo : Bool) (n : ℕ) (f : Fifo) (t : Taken) → Fits efifo f → ((j : ℕ) → j < n → num′ j ≡ num j)
+  pub flow-skip : (efifo : Bool) (n : ℕ) (f : Fifo) (t : Taken) → FitsFifo efifo f → ((j : ℕ) → j < n → num′ j ≡ num j)
       → f .tc ≡ false → Flow g cylinder transfer aim img num n 0 f t → Flow g cylinder transfer aim img num′ n 0 f t
   flow-skip efifo n f t fits stay u (flows a b c d e) =
       flows a b c d

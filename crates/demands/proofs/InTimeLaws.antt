@@ -32,8 +32,8 @@ use Rattle.sectors.specs.declared.work.Work.{Work}
 use Rattle.sectors.specs.declared.work.Work.the-variants.{Identifying, Moving, Formatting}
 use Rattle.sectors.specs.Result.{endOf, moveEnd, moveFails}
 use Rattle.sectors.specs.Track.{hasTrack, staysOf}
-use Rattle.engine.specs.First.{changes, gateOf, movingOf, startOf, enteredOf, beginOf}
-use Rattle.engine.specs.Step.{toHost, fromHost, lostOf, workOf, goOnOf, passFlow}
+use Rattle.engine.specs.First.{changes, gateOf, movingOf, startJob, enteredOf, beginOf}
+use Rattle.engine.specs.Step.{toHost, fromHost, lostOf, workStep, goOnOf, passFlow}
 use Rattle.fdc.specs.declared.record.Controller.{Controller}
 use Rattle.fdc.specs.declared.record.Phase.{Phase}
 use Rattle.fdc.specs.declared.record.Phase.the-variants.{Idle, Gathering, Starting, Working, Sensing, Answering}
@@ -222,7 +222,7 @@ module _ (efifo : Bool) (fifothr : ℕ) (L : Type 0) where
   later-gives : (site : Site) (task : Task) (stage : Stage) (seen : Disk) (head : ℕ) (img : List ℕ) (f : Fifo)
       → (Late efifo site task f stage → L) → Served (task .transfer .pass) efifo fifothr f stage
       → Gives efifo fifothr L (goOnOf (Moving site task stage) seen head img f efifo fifothr)
-  unfolding goOnOf workOf lostOf moveFails moveEnd endOf
+  unfolding goOnOf workStep lostOf moveFails moveEnd endOf
   later-gives site task stage seen head img f excuse s =
       by-test (staysOf seen (site .disk)) (Gives efifo fifothr L) _ _
       (λ t. rule-gives head img site task f stage _ excuse (task .transfer .pass) refl s
@@ -238,7 +238,7 @@ module _ (efifo : Bool) (fifothr : ℕ) (L : Type 0) where
 
   first-gives : (order : Order) (transfer : Transfer) (id : Id) → order .job ≡ Move transfer id → (disk : Disk)
       (head : ℕ) → Gives efifo fifothr L (beginOf order disk head emptied)
-  unfolding beginOf enteredOf gateOf startOf endOf
+  unfolding beginOf enteredOf gateOf startJob endOf
   first-gives order transfer id j Absent head = λ t. absurd (omega arith)
   first-gives order transfer id j (Present g) head = rw j
       (by-test (not (hasTrack g head (order .side)))

@@ -23,7 +23,7 @@ use Rattle.image.specs.Mark.{byteOf}
 use Rattle.image.specs.Slot.{idAt}
 use Rattle.image.specs.Sound.{markIn}
 use Rattle.sectors.specs.declared.order.Transfer.{Transfer}
-use Rattle.demands.specs.History.{Sector, Begun, no-one, some-of, History, fresh, noted, handed, storedBy}
+use Rattle.demands.specs.History.{Sector, Begun, no-one, some-of, History, noHistory, notedStore, handed, storedBy}
 use Rattle.demands.specs.PowerCut.{Aim, aimNo, Followed, Counts, Stands, HalfDone, AllFinished, BegunHalf, begunBytes, SparesAll, LeftBy}
 use Rattle.demands.proofs.AddressLaws.{Behind, behind-differs, AllBehind, aim-byte}
 use Rattle.image.specs.declared.lent.Effect.{Effect}
@@ -184,7 +184,7 @@ module _ (g : Geometry) (cylinder : ℕ) (transfer : Transfer) (aim : Aim) (old 
       )
 
   -- Nothing done yet.
-  pub left-fresh : Left old fresh
+  pub left-fresh : Left old noHistory
   left-fresh = record {
     finished = tt;
     begun = tt;
@@ -239,7 +239,7 @@ module _ (g : Geometry) (cylinder : ℕ) (transfer : Transfer) (aim : Aim) (old 
       abbrev broken : ℕ
       broken = byteOf (Data (transfer .deleted) true)
 
-      pub left-begins : Left (set img at broken) (noted (Store at broken) h)
+      pub left-begins : Left (set img at broken) (notedStore (Store at broken) h)
       left-begins = let inside = stands-inside g cylinder old fits (No now) at st in
           let here : (q : ℕ) → at ≤ q → q < at + 5 + sizeOf (g .n) → Inside g at q = λ q a b. record {
             from = a;
@@ -287,7 +287,7 @@ module _ (g : Geometry) (cylinder : ℕ) (transfer : Transfer) (aim : Aim) (old 
       pub left-puts : (p v : ℕ) → length bytes < sizeOf (g .n) → p ≡ at + 5 + length bytes
           → v ≡ getD (h .host) (now * sizeOf (g .n) + length bytes) 0
           → (length (h .host) < now * sizeOf (g .n) + length bytes + 1 → h .told ≡ true)
-          → Left (set img p v) (noted (Store p v) h)
+          → Left (set img p v) (notedStore (Store p v) h)
       left-puts p v l e f out =
           let (st, hd) = half in
           let inside = stands-inside g cylinder old fits (No now) at st in
@@ -335,7 +335,7 @@ module _ (g : Geometry) (cylinder : ℕ) (transfer : Transfer) (aim : Aim) (old 
       abbrev good : ℕ
       good = byteOf (Data (transfer .deleted) false)
 
-      pub left-finishes : length bytes ≡ sizeOf (g .n) → Left (set img at good) (noted (Store at good) h)
+      pub left-finishes : length bytes ≡ sizeOf (g .n) → Left (set img at good) (notedStore (Store at good) h)
       left-finishes z =
           let (st, hd) = half in
           let inside = stands-inside g cylinder old fits (No now) at st in
@@ -365,7 +365,7 @@ module _ (g : Geometry) (cylinder : ℕ) (transfer : Transfer) (aim : Aim) (old 
           })
 
 -- a store leaves the host's bytes
-pub noted-host : (effect : Effect) (h : History) → noted effect h .host ≡ h .host
+pub noted-host : (effect : Effect) (h : History) → notedStore effect h .host ≡ h .host
 noted-host Nothing h = refl
 noted-host (Store at byte) h = go (h .begun)
   where

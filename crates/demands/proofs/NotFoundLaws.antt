@@ -41,8 +41,8 @@ use Rattle.sectors.specs.Result.{endOf, moveEnd, moveFails, movesOf}
 use Rattle.sectors.specs.Search.{matches, noted, oneOn, missedOf, lookedOf, searchOf}
 use Rattle.sectors.specs.Search as finding
 use Rattle.sectors.specs.Track.{hasTrack, staysOf, markPlace}
-use Rattle.engine.specs.First.{taskOf, gateOf, movingOf, startOf, enteredOf, beginOf}
-use Rattle.engine.specs.Step.{stageOf, workOf, goOnOf}
+use Rattle.engine.specs.First.{taskOf, gateOf, movingOf, startJob, enteredOf, beginOf}
+use Rattle.engine.specs.Step.{stageOf, workStep, goOnOf}
 use Rattle.fdc.specs.declared.record.Controller.{Controller}
 use Rattle.fdc.specs.declared.record.Phase.the-variants.{Starting, Working}
 use Rattle.fdc.specs.Commands.{answeredOf}
@@ -370,7 +370,7 @@ module _ (img : List ℕ) (g : Geometry) (disk : diskIn img ≡ Present g) (orde
   starts-at Write fifo = goes (freshAt 0) (openedOf fifo) fresh-on refl
 
   begun : (fifo : Fifo) → beginOf order (Present g) cylinder fifo ≡ movingOf (transfer .pass) transfer id site fifo
-  unfolding beginOf gateOf enteredOf startOf hasTrack
+  unfolding beginOf gateOf enteredOf startJob hasTrack
   begun fifo = go (transfer .pass) refl
     where
       go : (pass : Pass) → transfer .pass ≡ pass
@@ -394,7 +394,7 @@ module _ (img : List ℕ) (g : Geometry) (disk : diskIn img ≡ Present g) (orde
   gone-on : (look : Search) (fifo : Fifo) (efifo : Bool) (fifothr : ℕ)
       → goOnOf (Moving site task (Searching look)) (Present g) cylinder img fifo efifo fifothr
       ≡ searchOf look site task cylinder img fifo
-  unfolding goOnOf staysOf workOf stageOf
+  unfolding goOnOf staysOf workStep stageOf
   gone-on look fifo efifo fifothr = simp (same-geometry g)
 
   landed : (c : Controller) (o : Step) → Leads o → Way (settledOf (o .then) (o .fifo) c)

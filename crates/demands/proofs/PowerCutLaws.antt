@@ -20,7 +20,7 @@ use Rattle.image.specs.Layout.{sizeOf}
 use Rattle.image.specs.Lent.{pickOf, storedAs}
 use Rattle.chip.specs.declared.fifo.Fifo.{Fifo}
 use Rattle.chip.specs.Fifo.{fullOf, emptied, openedOf, givenOf}
-use Rattle.chip.specs.Fifo.{Fits as FitsFifo}
+use Rattle.chip.specs.Fifo.{FitsFifo}
 use Rattle.sectors.specs.declared.order.Job.the-variants.{Move}
 use Rattle.sectors.specs.declared.order.Order.{Order}
 use Rattle.sectors.specs.declared.order.Pass.{Pass}
@@ -33,10 +33,10 @@ use Rattle.sectors.specs.declared.work.Task.{Task}
 use Rattle.sectors.specs.declared.work.Then.{Then}
 use Rattle.sectors.specs.declared.work.Then.the-variants.{Ends, Works}
 use Rattle.sectors.specs.declared.work.Work.the-variants.{Identifying, Moving, Formatting}
-use Rattle.engine.specs.First.{changes, gateOf, givenId, movingOf, startOf, enteredOf, beginOf}
+use Rattle.engine.specs.First.{changes, gateOf, givenId, movingOf, startJob, enteredOf, beginOf}
 use Rattle.sectors.specs.declared.work.Verdict.{Verdict}
 use Rattle.sectors.specs.Result.{st0Of, otherBit, endOf, moveEnd, moveFails}
-use Rattle.engine.specs.Step.{toHost, lostOf, workOf, goOnOf, passFlow}
+use Rattle.engine.specs.Step.{toHost, lostOf, workStep, goOnOf, passFlow}
 use Rattle.sectors.specs.Track.{hasTrack, staysOf}
 use Rattle.fdc.specs.declared.record.Controller.{Controller}
 use Rattle.fdc.specs.declared.record.Phase.{Phase}
@@ -51,7 +51,7 @@ use Rattle.fdc.specs.Registers.{motorIn}
 use Rattle.reached.specs.Runs.{Call, ticks, answerTo, after, runCalls}
 use Rattle.fdc.specs.Ticks.{seenOf, settledOf, decidedOf, ruledOf, tickOf, imageAfter}
 use Rattle.demands.specs.Acknowledged.{resultByte, resultId, Acknowledges}
-use Rattle.demands.specs.History.{History, fresh, noted, handed, historyBy, historyOf}
+use Rattle.demands.specs.History.{History, noHistory, notedStore, handed, historyBy, historyOf}
 use Rattle.demands.specs.PowerCut.{Writes, Aim, headOf, PowerCut}
 use Rattle.demands.specs.Work.{atWork, Its, imageBy, imageLeft, Handed, Alone, Real}
 use Rattle.demands.proofs.CallLaws.{tick-starts, tick-works, call-rule}
@@ -112,7 +112,7 @@ module _ (g : Geometry) (cylinder : ℕ) (order : Order) (transfer : Transfer) (
 
   -- 01 Data commands: an end in the first tick says that nothing is done
   shut-says : (st1 st2 : ℕ) → (st1 ≡ 0x80 → ⊥)
-      → Says-so (record { st0 = st0Of false drive (order .side); st1 = st1; st2 = st2; id = id }) fresh
+      → Says-so (record { st0 = st0Of false drive (order .side); st1 = st1; st2 = st2; id = id }) noHistory
   shut-says st1 st2 other =
       record {
         address = refl;
@@ -124,14 +124,14 @@ module _ (g : Geometry) (cylinder : ℕ) (order : Order) (transfer : Transfer) (
         broken = λ at bytes e. absurd (some≢none at bytes (sym e));
       }
 
-  done-fresh : Done old fresh
+  done-fresh : Done old noHistory
   done-fresh = left-fresh g cylinder transfer aim old fits hr
 
   -- The first tick.
   module _ (efifo : Bool) where
     first-busy : hasTrack g cylinder (order .side) ≡ true
         → Gives efifo (movingOf (transfer .pass) transfer id
-        (record { drive = drive; side = order .side; disk = g }) emptied) old fresh
+        (record { drive = drive; side = order .side; disk = g }) emptied) old noHistory
     unfolding movingOf openedOf hasTrack
     first-busy t =
         let (on-disk, on-cylinder) = both (ltb cylinder (g .cylinders)) (ltb (order .side) (g .heads)) t in
@@ -139,7 +139,7 @@ module _ (g : Geometry) (cylinder : ℕ) (order : Order) (transfer : Transfer) (
           drive = drive;
           side = order .side;
           disk = g;
-        }) emptied) old fresh)
+        }) emptied) old noHistory)
         (sym wr)
         (record {
           disk = refl;
@@ -166,26 +166,26 @@ module _ (g : Geometry) (cylinder : ℕ) (order : Order) (transfer : Transfer) (
           sofar = done-fresh;
         })
 
-    first-present : Gives efifo (beginOf order (Present g) cylinder emptied) old fresh
-    unfolding beginOf enteredOf gateOf startOf givenId endOf
+    first-present : Gives efifo (beginOf order (Present g) cylinder emptied) old noHistory
+    unfolding beginOf enteredOf gateOf startJob givenId endOf
     first-present = rw moves
         (by-test (not (hasTrack g cylinder (order .side)))
-        (λ x. Gives efifo (enteredOf x (Move transfer id) drive (order .side) cylinder emptied) old fresh) _ _
+        (λ x. Gives efifo (enteredOf x (Move transfer id) drive (order .side) cylinder emptied) old noHistory) _ _
         (λ t. (done-fresh, shut-says 0x01 0x00 (λ e. omega arith)))
         (λ t.
         by-test (changes (Move transfer id) && g .protect)
-        (λ x. Gives efifo (enteredOf x (Move transfer id) drive (order .side) cylinder emptied) old fresh) _ _
+        (λ x. Gives efifo (enteredOf x (Move transfer id) drive (order .side) cylinder emptied) old noHistory) _ _
         (λ u. (done-fresh, shut-says 0x02 0x00 (λ e. omega arith)))
         (λ u. first-busy (not-false (hasTrack g cylinder (order .side)) t))))
 
-    first-absent : Gives efifo (beginOf order Absent cylinder emptied) old fresh
+    first-absent : Gives efifo (beginOf order Absent cylinder emptied) old noHistory
     unfolding beginOf enteredOf gateOf givenId endOf
     first-absent = rw moves (done-fresh, shut-says 0x01 0x00 (λ e. omega arith))
 
-    first-step : (dor : ℕ) → Gives efifo (beginOf order (seenOf dor drive old) cylinder emptied) old fresh
+    first-step : (dor : ℕ) → Gives efifo (beginOf order (seenOf dor drive old) cylinder emptied) old noHistory
     unfolding seenOf
     first-step dor =
-        by-test (motorIn dor drive) (λ (d : Disk). Gives efifo (beginOf order d cylinder emptied) old fresh) _ _
+        by-test (motorIn dor drive) (λ (d : Disk). Gives efifo (beginOf order d cylinder emptied) old noHistory) _ _
         (λ t. rw disk first-present) (λ t. first-absent)
 
   -- 01 Data commands: a drive emptied or header changed later
@@ -202,7 +202,7 @@ module _ (g : Geometry) (cylinder : ℕ) (order : Order) (transfer : Transfer) (
   later-step : (efifo : Bool) (fifothr : ℕ) (site : Site) (task : Task) (stage : Stage) (fifo : Fifo) (img : List ℕ)
       (h : History) (seen : Disk) → FitsFifo efifo fifo → Works-on efifo site task stage fifo img h
       → Gives efifo (goOnOf (Moving site task stage) seen cylinder img fifo efifo fifothr) img h
-  unfolding goOnOf workOf lostOf moveFails moveEnd endOf
+  unfolding goOnOf workStep lostOf moveFails moveEnd endOf
   later-step efifo fifothr site task stage fifo img h seen f b =
       by-test (staysOf seen (site .disk)) (λ (o : Step). Gives efifo o img h) _ _
       (λ t.
@@ -221,7 +221,7 @@ module _ (g : Geometry) (cylinder : ℕ) (order : Order) (transfer : Transfer) (
   -- The record: the command is over, has not had its first tick, or is at it.
   pub data Run (c : Controller) (img : List ℕ) (h : History) : Type 0 where
     is-over : atWork (c .phase) ≡ false → Done img h → (c .phase ≡ Answering true → Told c h) → Run c img h
-    to-start : c .phase ≡ Starting order → driveAt drive (c .drives) .head ≡ cylinder → img ≡ old → h ≡ fresh
+    to-start : c .phase ≡ Starting order → driveAt drive (c .drives) .head ≡ cylinder → img ≡ old → h ≡ noHistory
         → Run c img h
     at-it : (site : Site) (task : Task) (stage : Stage) → c .phase ≡ Working (Moving site task stage)
         → driveAt drive (c .drives) .head ≡ cylinder → Works-on (c .registers .efifo) site task stage (c .fifo) img h
@@ -254,7 +254,7 @@ module _ (g : Geometry) (cylinder : ℕ) (order : Order) (transfer : Transfer) (
   unfolding answerTo tickOf answerOf imageAfter historyBy decidedOf
   tick-run a b c img h d o e q u k =
       subst
-      (λ (x : Decision). Run (x .controller) (storedAs (x .drive) drive (x .effect) img) (noted (x .effect) h)) (sym e)
+      (λ (x : Decision). Run (x .controller) (storedAs (x .drive) drive (x .effect) img) (notedStore (x .effect) h)) (sym e)
       (rw (eq-eqb d drive q) (settled-run (o .then) (o .fifo) c _ _ u k))
 
   -- the head's cylinder, as a tick asks for it
@@ -372,10 +372,10 @@ module _ (c : Controller) (quiet : Quiet c) (order : Order) (transfer : Transfer
       (hd, hs, hr, he)
 
   pub ran : Run g (headOf order c) order transfer id old disk (w .moves) (w .writes) (proper .2) (proper .3) (proper .0)
-      (runCalls calls c) (imageLeft (order .drive) old calls c) (historyOf calls c fresh)
+      (runCalls calls c) (imageLeft (order .drive) old calls c) (historyOf calls c noHistory)
   ran =
       run-all g (headOf order c) order transfer id old disk (w .moves) (w .writes) (proper .2) (proper .3) (proper .0)
-      calls c old fresh quiet its alone (to-start (w .accepted) refl refl refl)
+      calls c old noHistory quiet its alone (to-start (w .accepted) refl refl refl)
 
 -- Demand 3: finished sectors, the one begun, every other byte, after any of a write command's calls
 pub power-cut-quiet : PowerCut Quiet

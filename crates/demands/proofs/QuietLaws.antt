@@ -17,7 +17,7 @@ use Rattle.drive.specs.declared.Drive.{Drive}
 use Rattle.drive.specs.declared.Motion.{Motion}
 use Rattle.drive.specs.declared.Motion.the-variants.{Still, Seeking, Recalibrating}
 use Rattle.drive.specs.Step.{stepped, sought, recalibrated, seekTick, recalibrateTick, tickIn}
-use Rattle.drive.specs.Step.{tickOf as tickDrive}
+use Rattle.drive.specs.Step.{tickDrive}
 use Rattle.sectors.specs.declared.order.Order.{Order}
 use Rattle.sectors.specs.declared.work.Step.{Step}
 use Rattle.sectors.specs.declared.work.Then.{Then}

@@ -30,9 +30,9 @@ use Rattle.sectors.specs.declared.work.Work.the-variants.{Identifying}
 use Rattle.sectors.specs.Result.{endOf, goesOf}
 use Rattle.sectors.specs.Search.{slotOf}
 use Rattle.sectors.specs.Track.{hasTrack, staysOf, markPlace}
-use Rattle.engine.specs.First.{gateOf, startOf, enteredOf, beginOf}
+use Rattle.engine.specs.First.{gateOf, startJob, enteredOf, beginOf}
 use Rattle.engine.specs.ReadId.{noAddress, noIdOf, noIdHere, idHere, identifiedOf, identifyOf}
-use Rattle.engine.specs.Step.{workOf, goOnOf}
+use Rattle.engine.specs.Step.{workStep, goOnOf}
 use Rattle.fdc.specs.declared.record.Controller.{Controller}
 use Rattle.fdc.specs.declared.record.Phase.the-variants.{Starting, Working}
 use Rattle.fdc.specs.Commands.{answeredOf}
@@ -177,7 +177,7 @@ module _ (img : List ℕ) (g : Geometry) (disk : diskIn img ≡ Present g) (orde
     seen dor m = rw (m, disk)
 
     begun : (fifo : Fifo) → beginOf order (Present g) cylinder fifo ≡ goesOf (Identifying site 0 0) fifo Nothing
-    unfolding beginOf gateOf enteredOf startOf hasTrack
+    unfolding beginOf gateOf enteredOf startJob hasTrack
     begun fifo =
         simp (
           job,
@@ -188,7 +188,7 @@ module _ (img : List ℕ) (g : Geometry) (disk : diskIn img ≡ Present g) (orde
     gone-on : (slot passes : ℕ) (fifo : Fifo) (efifo : Bool) (fifothr : ℕ)
         → goOnOf (Identifying site slot passes) (Present g) cylinder img fifo efifo fifothr
         ≡ identifyOf slot passes site cylinder img fifo
-    unfolding goOnOf staysOf workOf
+    unfolding goOnOf staysOf workStep
     gone-on slot passes fifo efifo fifothr = simp (same-geometry g)
 
     landed : (c : Controller) (o : Step) → Leads plan o → Way (settledOf (o .then) (o .fifo) c)

@@ -26,7 +26,7 @@ use Rattle.image.proofs.MarkLaws.{mark-of-byte}
 use Rattle.image.proofs.TestLaws.{both, le-or-lt}
 use Rattle.chip.specs.declared.fifo.Fifo.{Fifo}
 use Rattle.chip.specs.Fifo.{emptied, frontOf, takenOf}
-use Rattle.chip.specs.Fifo.{Fits as FitsFifo}
+use Rattle.chip.specs.Fifo.{FitsFifo}
 use Rattle.sectors.specs.declared.order.Job.the-variants.{Move}
 use Rattle.sectors.specs.declared.order.Order.{Order}
 use Rattle.sectors.specs.declared.order.Pass.{Pass}
@@ -44,8 +44,8 @@ use Rattle.sectors.specs.Follow.{freshAt}
 use Rattle.sectors.specs.Result.{movesOf}
 use Rattle.sectors.specs.Search.{matches}
 use Rattle.sectors.specs.Track.{hasTrack, staysOf, markPlace, dataPlace, nextSlot}
-use Rattle.engine.specs.First.{gateOf, taskOf, movingOf, startOf, enteredOf, beginOf}
-use Rattle.engine.specs.Step.{fromHost, stageOf, workOf, goOnOf, passFlow}
+use Rattle.engine.specs.First.{gateOf, taskOf, movingOf, startJob, enteredOf, beginOf}
+use Rattle.engine.specs.Step.{fromHost, stageOf, workStep, goOnOf, passFlow}
 use Rattle.fdc.specs.declared.record.Controller.{Controller}
 use Rattle.fdc.specs.declared.record.Phase.{Phase}
 use Rattle.fdc.specs.declared.record.Phase.the-variants.{Starting, Working}
@@ -63,7 +63,7 @@ use Rattle.demands.specs.HandedOver.{Taken, untaken, tookOne, takenBy}
 use Rattle.demands.specs.InTime.{Late, Timely, AtTick, AtTicks, InTime}
 use Rattle.demands.specs.PowerCut.{Aim, aimNo, headOf}
 use Rattle.demands.specs.Quiet.{Quiet}
-use Rattle.demands.specs.ReadSucceeds.{AsTaken, TellsAt, AllGood, ReadSucceeds, ReadSucceedsInTime, Untold}
+use Rattle.demands.specs.ReadSucceeds.{AsTaken, TellsAt, AllGood, ReadSucceeds, ReadSucceedsInTime, UntoldRead}
 use Rattle.demands.specs.ReadSucceeds.{ReadReachesEot}
 use Rattle.demands.specs.Succeeds.{Fill, EndedAt, LastOne}
 use Rattle.demands.specs.Work.{Real, atWork, imageBy, Handed, Alone, Anyhow}
@@ -435,7 +435,7 @@ module _ (g : Geometry) (cylinder : ℕ) (order : Order) (transfer : Transfer) (
 
   begun : (f : Fifo)
       → beginOf order (Present g) cylinder f ≡ movesOf (Searching (freshAt 0)) (siteIn 0) (taskIn 0) f Nothing
-  unfolding beginOf gateOf enteredOf startOf movingOf hasTrack
+  unfolding beginOf gateOf enteredOf startJob movingOf hasTrack
   begun f =
       simp (
         job,
@@ -457,7 +457,7 @@ module _ (g : Geometry) (cylinder : ℕ) (order : Order) (transfer : Transfer) (
   gone-on : (n : ℕ) (stage : Stage) (f : Fifo) (efifo : Bool) (fifothr : ℕ)
       → goOnOf (Moving (siteIn n) (taskIn n) stage) (Present g) cylinder img f efifo fifothr
       ≡ stageOf stage (siteIn n) (taskIn n) cylinder img f efifo fifothr
-  unfolding goOnOf staysOf workOf
+  unfolding goOnOf staysOf workStep
   gone-on n stage f efifo fifothr = simp (same-geometry g)
 
   -- where a tick's step leads
@@ -682,14 +682,14 @@ read-succeeds-quiet c q order transfer id r img g sound bytes last fill all call
 -- Without: they end at EOT.
 pub read-reaches-eot-quiet : ReadReachesEot Quiet
 read-reaches-eot-quiet c q order transfer id r img g sound last all eot calls spins alone timely tells enough =
-    ends-said g (headOf order c) order transfer id img Untold false last plan (low-drive c order q (r .accepted))
+    ends-said g (headOf order c) order transfer id img UntoldRead false last plan (low-drive c order q (r .accepted))
     (r .moves) calls c q (r .accepted) refl refl spins alone timely tells enough
   where
     last-or-not : (n : ℕ) → n ≤ last → (last ≤ n) ⊎ (n < last) → (n < last) ⊎ ((n ≡ last) × (false ≡ false))
     last-or-not n l (inl m) = inr (omega arith, refl)
     last-or-not n l (inr m) = inl m
 
-    plan : Plan g (headOf order c) transfer (record { id = id; side = order .side }) img Untold false last
+    plan : Plan g (headOf order c) transfer (record { id = id; side = order .side }) img UntoldRead false last
     plan =
         record {
           sound = sound;

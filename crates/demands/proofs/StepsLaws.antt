@@ -20,7 +20,7 @@ use Rattle.fdc.specs.declared.answer.Reply.the-variants.{Done}
 use Rattle.fdc.specs.declared.record.Controller.{Controller}
 use Rattle.fdc.specs.Answer.{answerOf}
 use Rattle.fdc.specs.Calls.{portOf, writeReg, writePort, powerOn}
-use Rattle.fdc.specs.Commands.{heedsOf, idledOf, gatheredOf, goesOn, ticksOf, runOf, ranOf, soughtOf, recalibratedOf}
+use Rattle.fdc.specs.Commands.{heedsOf, idledOf, gatheredOf, goesOn, stepTime, runOf, ranOf, soughtOf, recalibratedOf}
 use Rattle.fdc.specs.Data.{offeredOf, writeFifo}
 use Rattle.fdc.specs.Record.{driveAt, withBytes, withDrives, withDrive}
 use Rattle.fdc.specs.Registers.{heldIn, bit, busyBits, anyBusy, msrOf}
@@ -141,7 +141,7 @@ module _ (byte : ℕ) (c : Controller) where
     began-free d = free kind byte c done
 
   sought : (k target : ℕ) (d : Drive) → Completes Seek byte c → byteNo 1 byte c % 4 ≡ k → byteNo 2 byte c ≡ target
-      → driveAt k (c .drives) ≡ d → d .busy ≡ false → after (writes 5 byte) c ≡ began k (seekOf target (ticksOf c) d)
+      → driveAt k (c .drives) ≡ d → d .busy ≡ false → after (writes 5 byte) c ≡ began k (seekOf target (stepTime c) d)
   unfolding ranOf soughtOf gatheredOf withBytes
   sought k target d done e t x f =
       ran-is Seek byte c done refl
@@ -149,7 +149,7 @@ module _ (byte : ℕ) (c : Controller) where
 
   recalibrated : (k : ℕ) (d : Drive) → Completes Recalibrate byte c → byteNo 1 byte c % 4 ≡ k
       → driveAt k (c .drives) ≡ d → d .busy ≡ false
-      → after (writes 5 byte) c ≡ began k (recalibrateOf k (ticksOf c) d)
+      → after (writes 5 byte) c ≡ began k (recalibrateOf k (stepTime c) d)
   unfolding ranOf recalibratedOf gatheredOf withBytes
   recalibrated k d done e x f =
       ran-is Recalibrate byte c done refl
@@ -161,7 +161,7 @@ unfolding idledOf withDrive withDrives gatheredOf withBytes
 seeks-on-time c byte done k target d e t x f =
     let low : k < 4 = omega arith in
     let s = sought byte c k target d done e t x f in
-    let d′ = seekOf target (ticksOf c) d in
+    let d′ = seekOf target (stepTime c) d in
     let reached : Reached (began byte c k d′) = subst Reached s (reached-after (writes 5 byte) c (done .real)) in
     rw s
     (seek-on-time k low (began byte c k d′) reached (began-spec1 byte c Seek done k low d′)
@@ -172,7 +172,7 @@ unfolding idledOf withDrive withDrives gatheredOf withBytes
 recalibrates-on-time c byte done k d e x f =
     let low : k < 4 = omega arith in
     let s = recalibrated byte c k d done e x f in
-    let d′ = recalibrateOf k (ticksOf c) d in
+    let d′ = recalibrateOf k (stepTime c) d in
     let reached : Reached (began byte c k d′) = subst Reached s (reached-after (writes 5 byte) c (done .real)) in
     rw s
     (recalibrate-on-time k low (began byte c k d′) reached (began-spec1 byte c Recalibrate done k low d′)

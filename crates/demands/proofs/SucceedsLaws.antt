@@ -30,7 +30,7 @@ use Rattle.image.specs.Slot.{idAt}
 use Rattle.image.specs.Sound.{markIn}
 use Rattle.chip.specs.declared.fifo.Fifo.{Fifo}
 use Rattle.chip.specs.Fifo.{emptied, openedOf}
-use Rattle.chip.specs.Fifo.{Fits as FitsFifo}
+use Rattle.chip.specs.Fifo.{FitsFifo}
 use Rattle.sectors.specs.declared.order.Job.the-variants.{Move}
 use Rattle.sectors.specs.declared.order.Order.{Order}
 use Rattle.sectors.specs.declared.order.Pass.{Pass}
@@ -51,8 +51,8 @@ use Rattle.sectors.specs.Follow.{freshAt}
 use Rattle.sectors.specs.Result.{st0Of, otherBit, movesOf}
 use Rattle.sectors.specs.Search.{matches}
 use Rattle.sectors.specs.Track.{hasTrack, staysOf, markPlace, sectorBytes}
-use Rattle.engine.specs.First.{gateOf, taskOf, movingOf, startOf, enteredOf, beginOf}
-use Rattle.engine.specs.Step.{stageOf, workOf, goOnOf}
+use Rattle.engine.specs.First.{gateOf, taskOf, movingOf, startJob, enteredOf, beginOf}
+use Rattle.engine.specs.Step.{stageOf, workStep, goOnOf}
 use Rattle.fdc.specs.declared.record.Controller.{Controller}
 use Rattle.fdc.specs.declared.record.Phase.{Phase}
 use Rattle.fdc.specs.declared.record.Phase.the-variants.{Idle, Gathering, Starting, Working, Sensing, Answering}
@@ -67,7 +67,7 @@ use Rattle.reached.specs.Runs.{Call, ticks, answerTo, after}
 use Rattle.fdc.specs.Ticks.{seenOf, settledOf, decidedOf, ruledOf, tickOf, imageAfter}
 use Rattle.demands.specs.DataError.{Spins}
 use Rattle.demands.specs.EndsInTime.{boundOf}
-use Rattle.demands.specs.History.{Sector, Begun, no-one, some-of, History, fresh, historyBy}
+use Rattle.demands.specs.History.{Sector, Begun, no-one, some-of, History, noHistory, historyBy}
 use Rattle.demands.specs.InTime.{Late, AtTick, AtTicks, Timely, InTime}
 use Rattle.demands.specs.PowerCut.{Aim, aimNo, Counts, Stands, Spares, AllFinished, BegunHalf, SparesAll, SparesBegun, LeftBy, Writes, headOf, passing}
 use Rattle.demands.specs.Quiet.{Quiet}
@@ -565,7 +565,7 @@ module _ (g : Geometry) (cylinder : ℕ) (order : Order) (transfer : Transfer) (
   begun : beginOf order (Present g) cylinder emptied
       ≡ movesOf (Searching (freshAt 0)) (record { drive = drive; side = order .side; disk = g }) (taskOf transfer id)
       (openedOf emptied) Nothing
-  unfolding beginOf gateOf enteredOf startOf movingOf hasTrack
+  unfolding beginOf gateOf enteredOf startJob movingOf hasTrack
   begun =
       let has = there .there 0 (omega arith) .stands .has in
       simp (
@@ -581,7 +581,7 @@ module _ (g : Geometry) (cylinder : ℕ) (order : Order) (transfer : Transfer) (
       → site .disk ≡ g
       → goOnOf (Moving site task stage) (Present g) cylinder img fifo efifo fifothr
       ≡ stageOf stage site task cylinder img fifo efifo fifothr
-  unfolding goOnOf staysOf workOf
+  unfolding goOnOf staysOf workStep
   gone-on site task stage img fifo efifo fifothr e = simp (e, same-geometry g)
 
   head-is : (c : Controller) → driveAt drive (c .drives) .head ≡ cylinder
@@ -740,15 +740,15 @@ module _ (g : Geometry) (cylinder : ℕ) (order : Order) (transfer : Transfer) (
 module _ (c : Controller) (q : Quiet c) (order : Order) (transfer : Transfer) (id : Id)
     (w : Writes c order transfer id) (old : List ℕ) (g : Geometry) (disk : Writable g old) (last : ℕ)
     (there : AllThere g old (headOf order c) transfer (record { id = id; side = order .side }) last) where
-  ends-by-plan : (plan : Plan g transfer (record { id = id; side = order .side }) last) → Few plan fresh
-      → Keeping plan fresh → (calls : List Call) → Spins (order .drive) calls c → Alone (order .drive) old calls c
-      → InTime calls c → Noting (Keeping plan) calls c fresh → boundOf g ≤ tickCount calls
+  ends-by-plan : (plan : Plan g transfer (record { id = id; side = order .side }) last) → Few plan noHistory
+      → Keeping plan noHistory → (calls : List Call) → Spins (order .drive) calls c → Alone (order .drive) old calls c
+      → InTime calls c → Noting (Keeping plan) calls c noHistory → boundOf g ≤ tickCount calls
       → command.Ends (EndedAt (tcOf plan) order transfer (record { id = id; side = order .side }) last) calls c
   ends-by-plan plan few keeping calls spins alone timely noting more =
       let (hd, hs, job) = rw (w .accepted) at (q .proper) in
       let (hr, he) = rw (w .moves) at job in
       ends-well g (headOf order c) order transfer id old (disk .present) (w .moves) (w .writes) hr he hd
-      (disk .unprotected) last there plan calls c old fresh
+      (disk .unprotected) last there plan calls c old noHistory
       (record {
         quiet = q;
         run = to-start (w .accepted) refl refl refl;

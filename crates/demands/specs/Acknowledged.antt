@@ -17,7 +17,7 @@ use Rattle.fdc.specs.declared.record.Controller.{Controller}
 use Rattle.fdc.specs.declared.record.Phase.the-variants.{Starting, Answering}
 use Rattle.reached.specs.Moves.{AllCalm}
 use Rattle.reached.specs.Runs.{Call, runCalls}
-use Rattle.demands.specs.History.{no-one, some-of, History, fresh, historyOf}
+use Rattle.demands.specs.History.{no-one, some-of, History, noHistory, historyOf}
 use Rattle.demands.specs.PowerCut.{Writes, Aim, aimNo, passing}
 use Rattle.demands.specs.Work.{atWork, Its, Alone}
 
@@ -68,7 +68,7 @@ Acknowledged From =
     → (old : List ℕ) (g : Geometry) → diskIn old ≡ Present g
     → (calls : List Call) → Its calls c → Alone (order .drive) old calls c
     → runCalls calls c .phase ≡ Answering true
-    → Acknowledges g transfer (record { id = id; side = order .side }) (historyOf calls c fresh)
+    → Acknowledges g transfer (record { id = id; side = order .side }) (historyOf calls c noHistory)
     (resultByte 0 (runCalls calls c)) (resultByte 1 (runCalls calls c)) (resultByte 2 (runCalls calls c))
     (resultId (runCalls calls c))
 

@@ -14,7 +14,7 @@ use Rattle.sectors.specs.declared.order.Transfer.{Transfer}
 use Rattle.fdc.specs.declared.record.Controller.{Controller}
 use Rattle.reached.specs.Runs.{Call, runCalls}
 use Rattle.demands.specs.HandedOver.{Reads, untaken, takenBy, takenOver}
-use Rattle.demands.specs.History.{fresh, historyBy, historyOf}
+use Rattle.demands.specs.History.{noHistory, historyBy, historyOf}
 use Rattle.demands.specs.PowerCut.{Writes}
 use Rattle.demands.specs.Work.{atWork, Its, Alone}
 
@@ -31,5 +31,5 @@ WriteStops From =
     (c : Controller) → From c → (order : Order) (transfer : Transfer) (id : Id) → Writes c order transfer id
     → (old : List ℕ) (g : Geometry) → diskIn old ≡ Present g
     → (calls : List Call) → Its calls c → Alone (order .drive) old calls c → atWork (runCalls calls c .phase) ≡ true
-    → historyOf calls c fresh .told ≡ true
-    → (call : Call) → historyBy call (runCalls calls c) (historyOf calls c fresh) .host ≡ historyOf calls c fresh .host
+    → historyOf calls c noHistory .told ≡ true
+    → (call : Call) → historyBy call (runCalls calls c) (historyOf calls c noHistory) .host ≡ historyOf calls c noHistory .host

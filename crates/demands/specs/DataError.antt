@@ -24,7 +24,7 @@ use Rattle.fdc.specs.Registers.{motorIn}
 use Rattle.reached.specs.Runs.{Call, after}
 use Rattle.demands.specs.Acknowledged.{resultByte, resultId}
 use Rattle.demands.specs.EndsInTime.{boundOf}
-use Rattle.demands.specs.History.{some-of, fresh, historyOf}
+use Rattle.demands.specs.History.{some-of, noHistory, historyOf}
 use Rattle.demands.specs.InTime.{InTime}
 use Rattle.demands.specs.PowerCut.{Writes, headOf}
 use Rattle.demands.specs.Work.{atWork, Its, Alone, imageLeft, Ends}
@@ -59,7 +59,7 @@ DataError From =
     (c : Controller) → From c → (order : Order) (transfer : Transfer) (id : Id) → Writes c order transfer id
     → (old : List ℕ) (g : Geometry) → Sound g old
     → (calls : List Call) → Its calls c → Alone (order .drive) old calls c
-    → (at : ℕ) (bytes : List ℕ) → historyOf calls c fresh .begun ≡ some-of at bytes
+    → (at : ℕ) (bytes : List ℕ) → historyOf calls c noHistory .begun ≡ some-of at bytes
     → (e : Controller) → From e → (order′ : Order) (transfer′ : Transfer) (id′ : Id)
     → ReadsIt e order′ transfer′ id′ g transfer old at
     → (calls′ : List Call) → Spins (order′ .drive) calls′ e
@@ -93,7 +93,7 @@ DataErrorInTime From =
     (c : Controller) → From c → (order : Order) (transfer : Transfer) (id : Id) → Writes c order transfer id
     → (old : List ℕ) (g : Geometry) → Sound g old
     → (calls : List Call) → Its calls c → Alone (order .drive) old calls c
-    → (at : ℕ) (bytes : List ℕ) → historyOf calls c fresh .begun ≡ some-of at bytes
+    → (at : ℕ) (bytes : List ℕ) → historyOf calls c noHistory .begun ≡ some-of at bytes
     → (e : Controller) → From e → (order′ : Order) (transfer′ : Transfer) (id′ : Id)
     → ReadsThere e order′ transfer′ id′ g old at
     → (transfer′ .deleted ≡ transfer .deleted) ⊎ (transfer′ .sk ≡ false)

@@ -12,7 +12,7 @@ use Rattle.chip.specs.declared.codes.Kind.{Kind}
 use Rattle.chip.specs.declared.codes.Kind.the-variants.{Seek, Recalibrate}
 use Rattle.drive.specs.declared.Drive.{Drive}
 use Rattle.drive.specs.Drive.{distance, recalibrateSteps}
-use Rattle.drive.specs.Due.{Seeks, Recalibrates, Over, headAfter, overAfter, recalibrateReport}
+use Rattle.drive.specs.Due.{SeekDue, Recalibrates, MotionOver, headAfter, overAfter, recalibrateReport}
 use Rattle.sectors.specs.declared.order.Order.{Order}
 use Rattle.image.specs.declared.disk.Disk.the-variants.{Absent, Present}
 use Rattle.image.specs.declared.layout.Geometry.{Geometry}
@@ -21,7 +21,7 @@ use Rattle.image.specs.Layout.{sizeOf}
 use Rattle.image.specs.Lent.{pickOf}
 use Rattle.fdc.specs.declared.record.Controller.{Controller}
 use Rattle.fdc.specs.declared.record.Phase.the-variants.{Gathering, Starting, Sensing, Answering}
-use Rattle.fdc.specs.Commands.{commandByte, gatheredOf, ticksOf}
+use Rattle.fdc.specs.Commands.{commandByte, gatheredOf, stepTime}
 use Rattle.reached.specs.Moves.{tickCount, OnTime}
 use Rattle.fdc.specs.Record.{driveAt}
 use Rattle.reached.specs.Runs.{Call, writes, ticks, after}
@@ -74,9 +74,9 @@ SeeksOnTime =
     → (k target : ℕ) (d : Drive) → byteNo 1 byte c % 4 ≡ k → byteNo 2 byte c ≡ target → driveAt k (c .drives) ≡ d
     → d .busy ≡ false
     → OnTime
-    (Seeks k (ticksOf c) (d .pcn) target (headAfter k (ltb (d .pcn) target) (distance (d .pcn) target) (d .head)))
-    (Over target (0x20 + k % 4) (headAfter k (ltb (d .pcn) target) (distance (d .pcn) target) (d .head)))
-    k (overAfter (distance (d .pcn) target) (ticksOf c)) (after (writes 5 byte) c)
+    (SeekDue k (stepTime c) (d .pcn) target (headAfter k (ltb (d .pcn) target) (distance (d .pcn) target) (d .head)))
+    (MotionOver target (0x20 + k % 4) (headAfter k (ltb (d .pcn) target) (distance (d .pcn) target) (d .head)))
+    k (overAfter (distance (d .pcn) target) (stepTime c)) (after (writes 5 byte) c)
 
 -- 01 Stepping: a Recalibrate likewise: out until the head is at 0, at most 79 times; PCN 0, and the report by where the
 -- head then stands
@@ -85,7 +85,7 @@ RecalibratesOnTime =
     (c : Controller) (byte : ℕ) → Completes Recalibrate byte c
     → (k : ℕ) (d : Drive) → byteNo 1 byte c % 4 ≡ k → driveAt k (c .drives) ≡ d → d .busy ≡ false
     → OnTime
-    (Recalibrates k (ticksOf c) (d .pcn) (headAfter k false (recalibrateSteps k (d .head)) (d .head)))
-    (Over 0 (recalibrateReport k (headAfter k false (recalibrateSteps k (d .head)) (d .head)))
+    (Recalibrates k (stepTime c) (d .pcn) (headAfter k false (recalibrateSteps k (d .head)) (d .head)))
+    (MotionOver 0 (recalibrateReport k (headAfter k false (recalibrateSteps k (d .head)) (d .head)))
     (headAfter k false (recalibrateSteps k (d .head)) (d .head)))
-    k (overAfter (recalibrateSteps k (d .head)) (ticksOf c)) (after (writes 5 byte) c)
+    k (overAfter (recalibrateSteps k (d .head)) (stepTime c)) (after (writes 5 byte) c)

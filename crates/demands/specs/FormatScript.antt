@@ -27,7 +27,7 @@ use Rattle.fdc.specs.declared.record.Phase.the-variants.{Starting, Answering}
 use Rattle.reached.specs.Runs.{Call, powers, reads, writes, takes, gives, ticks, notes, after, runCalls}
 use Rattle.fdc.specs.Ticks.{ruledOf}
 use Rattle.demands.specs.Acknowledged.{resultByte, resultId}
-use Rattle.demands.specs.History.{fresh, historyOf}
+use Rattle.demands.specs.History.{noHistory, historyOf}
 use Rattle.demands.specs.PowerCut.{headOf}
 use Rattle.demands.specs.Work.{Its, Alone, imageLeft}
 
@@ -167,5 +167,5 @@ FormatScript From =
     (c : Controller) → From c → (order : Order) (plan : Plan) → Formats c order plan
     → (old : List ℕ) (g : Geometry) → diskIn old ≡ Present g
     → (calls : List Call) → Its calls c → Alone (order .drive) old calls c
-    → FormattedBy g (headOf order c) (order .drive) (order .side) plan (historyOf calls c fresh .host)
+    → FormattedBy g (headOf order c) (order .drive) (order .side) plan (historyOf calls c noHistory .host)
     (storesOf calls c 0) old (imageLeft (order .drive) old calls c) (runCalls calls c)

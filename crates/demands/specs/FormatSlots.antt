@@ -18,7 +18,7 @@ use Rattle.image.specs.Sound.{markIn}
 use Rattle.fdc.specs.declared.record.Controller.{Controller}
 use Rattle.reached.specs.Runs.{Call}
 use Rattle.demands.specs.FormatScript.{Formats, slotDraws, slotStores, laidDown, storesOf}
-use Rattle.demands.specs.History.{fresh, historyOf}
+use Rattle.demands.specs.History.{noHistory, historyOf}
 use Rattle.demands.specs.PowerCut.{headOf}
 use Rattle.demands.specs.Work.{Its, Alone, imageLeft}
 
@@ -53,7 +53,7 @@ FormatSlots From =
     (c : Controller) → From c → (order : Order) (plan : Plan) → Formats c order plan
     → (old : List ℕ) (g : Geometry) → diskIn old ≡ Present g
     → (calls : List Call) → Its calls c → Alone (order .drive) old calls c
-    → SlotsLeft g (headOf order c) (order .side) plan (historyOf calls c fresh .host) (storesOf calls c 0) old
+    → SlotsLeft g (headOf order c) (order .side) plan (historyOf calls c noHistory .host) (storesOf calls c 0) old
     (imageLeft (order .drive) old calls c)
 
 -- place i is in no slot of that track

@@ -21,7 +21,7 @@ use Rattle.demands.specs.Acknowledged.{resultByte, resultId}
 use Rattle.demands.specs.DataError.{Spins}
 use Rattle.demands.specs.EndsInTime.{boundOf}
 use Rattle.demands.specs.FormatScript.{Formats, slotDraws, Allowed}
-use Rattle.demands.specs.History.{History, fresh, historyBy}
+use Rattle.demands.specs.History.{History, noHistory, historyBy}
 use Rattle.demands.specs.InTime.{AtTick, InTime}
 use Rattle.demands.specs.PowerCut.{headOf}
 use Rattle.demands.specs.Work.{atWork, Its, Alone, Ends}
@@ -57,7 +57,7 @@ abbrev pub FormatServed : (Controller → Type 0) → Type 0
 FormatServed From =
     (c : Controller) → From c → (order : Order) (plan : Plan) → Formats c order plan
     → (old : List ℕ) (g : Geometry) → diskIn old ≡ Present g
-    → (calls : List Call) → Alone (order .drive) old calls c → ServedUpTo (plan .sc * slotDraws) calls c fresh
+    → (calls : List Call) → Alone (order .drive) old calls c → ServedUpTo (plan .sc * slotDraws) calls c noHistory
     → InTime calls c
 
 -- in time, no Format ends with ST1 10, whoever changes the image

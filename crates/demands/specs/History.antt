@@ -30,8 +30,8 @@ pub record History : Type 0 where
   pub finished : List Sector
   pub begun : Begun
 
-abbrev pub fresh : History
-fresh = record { host = []; told = false; finished = []; begun = no-one }
+abbrev pub noHistory : History
+noHistory = record { host = []; told = false; finished = []; begun = no-one }
 
 -- a store with no sector begun begins one; each later one is a byte of it, until its mark is stored again
 abbrev pub storedBy : ℕ → ℕ → Begun → History → History
@@ -47,9 +47,9 @@ storedBy at byte (some-of mark bytes) h =
     })
     (record { host = h .host; told = h .told; finished = h .finished; begun = some-of mark (bytes ++ (byte ∷ [])) })
 
-abbrev pub noted : Effect → History → History
-noted Nothing h = h
-noted (Store at byte) h = storedBy at byte (h .begun) h
+abbrev pub notedStore : Effect → History → History
+notedStore Nothing h = h
+notedStore (Store at byte) h = storedBy at byte (h .begun) h
 
 abbrev pub handed : ℕ → Bool → History → History
 handed byte tc h =
@@ -68,7 +68,7 @@ historyBy (writes offset byte) c h =
     cond (eqb offset 5 && taken (answerTo (writes offset byte) c .reply)) (handed byte false h) h
 historyBy (takes tc) c h = h
 historyBy (gives byte tc) c h = cond (taken (answerTo (gives byte tc) c .reply)) (handed byte tc h) h
-historyBy (ticks a b) c h = noted (ruledOf a b c .effect) h
+historyBy (ticks a b) c h = notedStore (ruledOf a b c .effect) h
 historyBy (notes drive) c h = h
 
 unfoldable pub historyOf : List Call → Controller → History → History

@@ -27,7 +27,7 @@ use Rattle.fdc.specs.declared.record.Phase.the-variants.{Starting}
 use Rattle.fdc.specs.Record.{driveAt}
 use Rattle.reached.specs.Runs.{Call, runCalls}
 use Rattle.fdc.specs.Ticks.{imageAfter}
-use Rattle.demands.specs.History.{Sector, Begun, no-one, some-of, History, fresh, historyOf}
+use Rattle.demands.specs.History.{Sector, Begun, no-one, some-of, History, noHistory, historyOf}
 use Rattle.demands.specs.Work.{Its, Alone, imageLeft}
 
 -- a Write Data or Write Deleted was accepted: any drive, side, MT, DMA or not, FIFO on or off
@@ -161,7 +161,7 @@ PowerCut From =
     → (old : List ℕ) (g : Geometry) → diskIn old ≡ Present g
     → (calls : List Call) → Its calls c → Alone (order .drive) old calls c
     → LeftBy g (headOf order c) transfer (record { id = id; side = order .side }) old
-    (imageLeft (order .drive) old calls c) (historyOf calls c fresh)
+    (imageLeft (order .drive) old calls c) (historyOf calls c noHistory)
 
 -- the other image untouched, whatever it holds at each tick: of every drive but the command's, and for any command
 abbrev pub OtherImage : (Controller → Type 0) → Type 0

@@ -67,8 +67,8 @@ abbrev pub ReadSucceedsInTime : (Controller → Type 0) → Type 0
 ReadSucceedsInTime From = ReadSucceedsIf InTime From
 
 -- TC does not come; in non-DMA it cannot
-abbrev pub Untold : Taken → Type 0
-Untold t = t .told ≡ false
+abbrev pub UntoldRead : Taken → Type 0
+UntoldRead t = t .told ≡ false
 
 -- without TC the same read goes on to EOT: all bytes up to there are taken (`HandedOver`, past-eot)
 abbrev pub ReadReachesEot : (Controller → Type 0) → Type 0
@@ -78,7 +78,7 @@ ReadReachesEot From =
     → (last : ℕ) → AllGood g img (headOf order c) transfer (record { id = id; side = order .side }) last
     → LastOne transfer (aimNo transfer (record { id = id; side = order .side }) last)
     → (calls : List Call) → Spins (order .drive) calls c → Alone (order .drive) img calls c → InTime calls c
-    → AsTaken Untold calls c untaken → boundOf g ≤ tickCount calls
+    → AsTaken UntoldRead calls c untaken → boundOf g ≤ tickCount calls
     → Ends (PastEot order transfer (record { id = id; side = order .side }) last) calls c
 
 -- Such a host there is, in DMA mode with the gate bit on (01 Registers DRQ), for as many ticks as one likes: it takes

@@ -23,7 +23,7 @@ use Rattle.fdc.specs.declared.record.Phase.the-variants.{Answering}
 use Rattle.reached.specs.Runs.{Call, runCalls}
 use Rattle.demands.specs.Acknowledged.{doneCount, resultByte}
 use Rattle.demands.specs.HandedOver.{Reads, untaken, takenOver, IsOther}
-use Rattle.demands.specs.History.{Sector, History, fresh, historyOf}
+use Rattle.demands.specs.History.{Sector, History, noHistory, historyOf}
 use Rattle.demands.specs.PowerCut.{Writes, Aim, aimNo, Counts, headOf, passing}
 use Rattle.demands.specs.Work.{Its, Alone, imageLeft}
 
@@ -71,7 +71,7 @@ module _ {From : Controller → Type 0} (w : Written From) where
   leftBy = imageLeft (w .order .drive) (w .old) (w .calls) (w .c)
 
   abbrev pub doneBy : History
-  doneBy = historyOf (w .calls) (w .c) fresh
+  doneBy = historyOf (w .calls) (w .c) noHistory
 
   abbrev pub sectorsBy : ℕ
   sectorsBy = doneCount doneBy

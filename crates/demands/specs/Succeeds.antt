@@ -21,7 +21,7 @@ use Rattle.reached.specs.Runs.{Call, after}
 use Rattle.demands.specs.Acknowledged.{resultByte, resultId}
 use Rattle.demands.specs.DataError.{Spins}
 use Rattle.demands.specs.EndsInTime.{boundOf}
-use Rattle.demands.specs.History.{History, fresh, historyBy}
+use Rattle.demands.specs.History.{History, noHistory, historyBy}
 use Rattle.demands.specs.InTime.{InTime, Prompt}
 use Rattle.demands.specs.PowerCut.{Writes, Aim, aimNo, Followed, Stands, headOf, passing}
 use Rattle.demands.specs.Work.{atWork, Alone, Ends}
@@ -82,7 +82,7 @@ WriteSucceedsIf Served From =
     → (bytes last : ℕ) → Fill g bytes last
     → AllThere g old (headOf order c) transfer (record { id = id; side = order .side }) last
     → (calls : List Call) → Spins (order .drive) calls c → Alone (order .drive) old calls c → Served calls c
-    → WriteTells bytes calls c fresh → boundOf g ≤ tickCount calls
+    → WriteTells bytes calls c noHistory → boundOf g ≤ tickCount calls
     → Ends (Success order transfer (record { id = id; side = order .side }) last) calls c
 
 -- each request is served before the next tick
@@ -113,5 +113,5 @@ WriteReachesEot From =
     → (last : ℕ) → AllThere g old (headOf order c) transfer (record { id = id; side = order .side }) last
     → LastOne transfer (aimNo transfer (record { id = id; side = order .side }) last)
     → (calls : List Call) → Spins (order .drive) calls c → Alone (order .drive) old calls c → InTime calls c
-    → Noting Untold calls c fresh → boundOf g ≤ tickCount calls
+    → Noting Untold calls c noHistory → boundOf g ≤ tickCount calls
     → Ends (PastEot order transfer (record { id = id; side = order .side }) last) calls c

@@ -9,21 +9,21 @@ use Rattle.image.proofs.TestLaws.{by-test}
 use Rattle.drive.specs.declared.Drive.{Drive}
 use Rattle.drive.specs.declared.Motion.{Motion}
 use Rattle.drive.specs.declared.Motion.the-variants.{Still, Seeking, Recalibrating}
-use Rattle.drive.specs.Drive.{fresh, resetOf, reportedOf, sensedOf, notedOf, distance, firstWait, recalibrateSteps, seekOf, recalibrateOf, waitOf}
+use Rattle.drive.specs.Drive.{freshDrive, resetDrive, reportedOf, sensedDrive, notedOf, distance, firstWait, recalibrateSteps, seekOf, recalibrateOf, countdownOf}
 use Rattle.drive.specs.Due.{Within}
-use Rattle.drive.specs.Step.{moved, stepped, moving, sought, recalibrated, seekStep, recalibrateStep, seekTick, recalibrateTick, tickIn, tickOf}
+use Rattle.drive.specs.Step.{moved, stepped, moving, sought, recalibrated, seekStep, recalibrateStep, seekTick, recalibrateTick, tickIn, tickDrive}
 
-pub within-fresh : (head : ℕ) → head ≤ 81 → Within (fresh head)
+pub within-fresh : (head : ℕ) → head ≤ 81 → Within (freshDrive head)
 within-fresh head h = record { head = h; count = omega arith }
 
 module _ (d : Drive) (w : Within d) where
-  pub within-reset : Within (resetOf d)
+  pub within-reset : Within (resetDrive d)
   within-reset = record { head = w .head; count = omega arith }
 
   pub within-reported : (report : ℕ) → Within (reportedOf report d)
   within-reported report = record { head = w .head; count = w .count }
 
-  pub within-sensed : Within (sensedOf d)
+  pub within-sensed : Within (sensedDrive d)
   within-sensed = record { head = w .head; count = w .count }
 
   pub within-noted : Within (notedOf d)
@@ -55,7 +55,7 @@ module _ (d : Drive) (w : Within d) where
   unfolding stepped
   within-stepped number mounted goesIn = record { head = moved-le number goesIn; count = w .count }
 
-  within-moving : (motion : Motion) → waitOf motion ≤ 1000 → Within (moving motion d)
+  within-moving : (motion : Motion) → countdownOf motion ≤ 1000 → Within (moving motion d)
   within-moving motion h = record { head = w .head; count = h }
 
   within-sought : (number target : ℕ) → Within (sought number target d)
@@ -79,7 +79,7 @@ module _ (number : ℕ) (mounted : Bool) (ticks : ℕ) (short : ticks ≤ 1000) 
       let s = within-stepped d w number mounted false in
       by-test (leb steps 1) Within _ _ (λ _. within-recalibrated _ s number) (λ _. within-moving _ s _ short)
 
-  within-in : (motion : Motion) → waitOf motion ≤ 1000 → Within (tickIn motion number mounted ticks d)
+  within-in : (motion : Motion) → countdownOf motion ≤ 1000 → Within (tickIn motion number mounted ticks d)
   unfolding tickIn seekTick recalibrateTick seekStep recalibrateStep
   within-in Still h = w
   within-in (Seeking target steps wait) h =
@@ -90,6 +90,6 @@ module _ (number : ℕ) (mounted : Bool) (ticks : ℕ) (short : ticks ≤ 1000) 
       by-test (ltb 1 wait) Within _ _ (λ _. within-moving d w _ (omega arith))
       (λ _. by-test (eqb steps 0) Within _ _ (λ _. within-recalibrated d w number) (λ _. within-recalibrate-step steps))
 
-  pub within-tick : Within (tickOf number mounted ticks d)
-  unfolding tickOf
+  pub within-tick : Within (tickDrive number mounted ticks d)
+  unfolding tickDrive
   within-tick = within-in (d .motion) (w .count)

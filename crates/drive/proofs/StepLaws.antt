@@ -12,8 +12,8 @@ use Rattle.drive.specs.declared.Drive.{Drive}
 use Rattle.drive.specs.declared.Motion.{Motion}
 use Rattle.drive.specs.declared.Motion.the-variants.{Seeking, Recalibrating}
 use Rattle.drive.specs.Drive.{distance, firstWait, recalibrateSteps, accepted, seekOf, recalibrateOf}
-use Rattle.drive.specs.Due.{headAfter, dueOf, Goes, Seeks, Recalibrates, Over, recalibrateReport, overAfter}
-use Rattle.drive.specs.Step.{stepped, moving, sought, recalibrated, onStep, onTick, seekTick, recalibrateTick, tickIn, tickOf}
+use Rattle.drive.specs.Due.{headAfter, dueOf, Goes, SeekDue, Recalibrates, MotionOver, recalibrateReport, overAfter}
+use Rattle.drive.specs.Step.{stepped, moving, sought, recalibrated, onStep, onTick, seekTick, recalibrateTick, tickIn, tickDrive}
 
 -- what a step leaves of a drive but its head and change flag
 abbrev Arrives : (Drive → Drive) → ℕ → ℕ → Drive → Type 0
@@ -91,10 +91,10 @@ module _
 
 module _ (number ticks : ℕ) (pos : 1 ≤ ticks) (mounted : Bool) (pcn target final : ℕ) (d : Drive) where
   -- the direction is that from the PCN at the command
-  as-seek : (P : Drive → Type 0) {due : ℕ} (g : Seeks number ticks pcn target final due d)
+  as-seek : (P : Drive → Type 0) {due : ℕ} (g : SeekDue number ticks pcn target final due d)
       → P (onTick (Seeking target) (sought number target) (ltb pcn target) number mounted ticks (g .steps) (g .wait) d)
-      → P (tickOf number mounted ticks d)
-  unfolding tickOf tickIn seekTick
+      → P (tickDrive number mounted ticks d)
+  unfolding tickDrive tickIn seekTick
   as-seek P g p =
       subst (λ (m : Motion). P (tickIn m number mounted ticks d)) (sym (g .motion))
       (subst
@@ -103,45 +103,45 @@ module _ (number ticks : ℕ) (pos : 1 ≤ ticks) (mounted : Bool) (pcn target f
       p)
 
   -- 01 Stepping: a tick of a Seek takes one from the ticks due
-  pub seek-goes-on : (due : ℕ) → 1 ≤ due → Seeks number ticks pcn target final (suc due) d
-      → Seeks number ticks pcn target final due (tickOf number mounted ticks d)
+  pub seek-goes-on : (due : ℕ) → 1 ≤ due → SeekDue number ticks pcn target final (suc due) d
+      → SeekDue number ticks pcn target final due (tickDrive number mounted ticks d)
   seek-goes-on due more g =
-      as-seek (Seeks number ticks pcn target final due) g
+      as-seek (SeekDue number ticks pcn target final due) g
       (goes-on (Seeking target) (sought number target) (ltb pcn target) number ticks pcn final pos mounted d due more g)
 
   -- and the last one due ends it: PCN is NCN, report 20 + drive
-  pub seek-ends : Seeks number ticks pcn target final 1 d
-      → Over target (0x20 + number % 4) final (tickOf number mounted ticks d)
+  pub seek-ends : SeekDue number ticks pcn target final 1 d
+      → MotionOver target (0x20 + number % 4) final (tickDrive number mounted ticks d)
   unfolding sought
   seek-ends g =
-      as-seek (Over target (0x20 + number % 4) final) g
+      as-seek (MotionOver target (0x20 + number % 4) final) g
       (over (ends-now (Seeking target) (sought number target) (ltb pcn target) number ticks pcn final pos mounted d g))
     where
-      over : {r : Drive} → Arrives (sought number target) pcn final r → Over target (0x20 + number % 4) final r
+      over : {r : Drive} → Arrives (sought number target) pcn final r → MotionOver target (0x20 + number % 4) final r
       over (x, e, h, p, b) = rw e (record { still = refl; pcn-is = refl; report-is = refl; head = h; busy = b })
 
 module _ (number ticks : ℕ) (pos : 1 ≤ ticks) (mounted : Bool) (pcn final : ℕ) (d : Drive) where
   as-recalibrate : (P : Drive → Type 0) {due : ℕ} (g : Recalibrates number ticks pcn final due d)
       → P (onTick Recalibrating (recalibrated number) false number mounted ticks (g .steps) (g .wait) d)
-      → P (tickOf number mounted ticks d)
-  unfolding tickOf tickIn recalibrateTick
+      → P (tickDrive number mounted ticks d)
+  unfolding tickDrive tickIn recalibrateTick
   as-recalibrate P g p = subst (λ (m : Motion). P (tickIn m number mounted ticks d)) (sym (g .motion)) p
 
   pub recalibrate-goes-on : (due : ℕ) → 1 ≤ due → Recalibrates number ticks pcn final (suc due) d
-      → Recalibrates number ticks pcn final due (tickOf number mounted ticks d)
+      → Recalibrates number ticks pcn final due (tickDrive number mounted ticks d)
   recalibrate-goes-on due more g =
       as-recalibrate (Recalibrates number ticks pcn final due) g
       (goes-on Recalibrating (recalibrated number) false number ticks pcn final pos mounted d due more g)
 
   -- 01 Stepping: PCN 0; report 20 + drive, or 70 + drive if the head isn't at 0
   pub recalibrate-ends : Recalibrates number ticks pcn final 1 d
-      → Over 0 (recalibrateReport number final) final (tickOf number mounted ticks d)
+      → MotionOver 0 (recalibrateReport number final) final (tickDrive number mounted ticks d)
   unfolding recalibrated
   recalibrate-ends g =
-      as-recalibrate (Over 0 (recalibrateReport number final) final) g
+      as-recalibrate (MotionOver 0 (recalibrateReport number final) final) g
       (over (ends-now Recalibrating (recalibrated number) false number ticks pcn final pos mounted d g))
     where
-      over : {r : Drive} → Arrives (recalibrated number) pcn final r → Over 0 (recalibrateReport number final) final r
+      over : {r : Drive} → Arrives (recalibrated number) pcn final r → MotionOver 0 (recalibrateReport number final) final r
       over (x, e, h, p, b) =
           rw e (record {
             still = refl;
@@ -182,7 +182,7 @@ module _ (number ticks : ℕ) (pos : 1 ≤ ticks) (d : Drive) where
 
   -- 01 Stepping: |NCN - PCN| steps
   pub seek-begins : (target : ℕ)
-      → Seeks number ticks (d .pcn) target (headAfter number (ltb (d .pcn) target) (distance (d .pcn) target) (d .head))
+      → SeekDue number ticks (d .pcn) target (headAfter number (ltb (d .pcn) target) (distance (d .pcn) target) (d .head))
       (overAfter (distance (d .pcn) target) ticks) (seekOf target ticks d)
   seek-begins target = begins (Seeking target) (ltb (d .pcn) target) (distance (d .pcn) target)
 

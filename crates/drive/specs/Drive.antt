@@ -9,12 +9,12 @@ use Rattle.drive.specs.declared.Motion.{Motion}
 use Rattle.drive.specs.declared.Motion.the-variants.{Still, Seeking, Recalibrating}
 
 -- 01 Registers power-on: PCN 0, change flags on
-abbrev pub fresh : ℕ → Drive
-fresh head = record { head = head; pcn = 0; changed = true; busy = false; report = 0; motion = Still }
+abbrev pub freshDrive : ℕ → Drive
+freshDrive head = record { head = head; pcn = 0; changed = true; busy = false; report = 0; motion = Still }
 
 -- 01 Registers reset: steps still due, report and busy bit go, PCN becomes 0; head and change flag stay
-abbrev pub resetOf : Drive → Drive
-resetOf d = record { head = d .head; pcn = 0; changed = d .changed; busy = false; report = 0; motion = Still }
+abbrev pub resetDrive : Drive → Drive
+resetDrive d = record { head = d .head; pcn = 0; changed = d .changed; busy = false; report = 0; motion = Still }
 
 -- 01 Registers reset: a report at release
 abbrev pub reportedOf : ℕ → Drive → Drive
@@ -22,8 +22,8 @@ reportedOf report d =
     record { head = d .head; pcn = d .pcn; changed = d .changed; busy = d .busy; report = report; motion = d .motion }
 
 -- 01 Commands: Sense Interrupt takes the report and clears the busy bit
-abbrev pub sensedOf : Drive → Drive
-sensedOf d =
+abbrev pub sensedDrive : Drive → Drive
+sensedDrive d =
     record { head = d .head; pcn = d .pcn; changed = d .changed; busy = false; report = 0; motion = d .motion }
 
 -- 01 Calls: the disk-change note sets the change flag and does nothing else
@@ -59,10 +59,10 @@ recalibrateOf number ticks d =
     d
 
 -- 01 Refusals 4: the step countdown
-abbrev pub waitOf : Motion → ℕ
-waitOf Still = 0
-waitOf (Seeking target steps wait) = wait
-waitOf (Recalibrating steps wait) = wait
+abbrev pub countdownOf : Motion → ℕ
+countdownOf Still = 0
+countdownOf (Seeking target steps wait) = wait
+countdownOf (Recalibrating steps wait) = wait
 
 -- no Seek or Recalibrate is going on
 abbrev pub standsIn : Motion → Bool

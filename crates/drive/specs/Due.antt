@@ -8,13 +8,13 @@ use lib.Dec.{eqb, ltb}
 use Rattle.drive.specs.declared.Drive.{Drive}
 use Rattle.drive.specs.declared.Motion.{Motion}
 use Rattle.drive.specs.declared.Motion.the-variants.{Still, Seeking, Recalibrating}
-use Rattle.drive.specs.Drive.{waitOf}
+use Rattle.drive.specs.Drive.{countdownOf}
 use Rattle.drive.specs.Step.{moved}
 
 -- 01 Refusals 4: what every drive keeps to: the head is not above 81, the step countdown not above 1000
 pub record Within (d : Drive) : Type 0 where
   pub head : d .head ≤ 81
-  pub count : waitOf (d .motion) ≤ 1000
+  pub count : countdownOf (d .motion) ≤ 1000
 
 -- the head after a number of steps in or out
 abbrev pub headAfter : ℕ → Bool → ℕ → ℕ → ℕ
@@ -39,14 +39,14 @@ pub record Goes (on : ℕ → ℕ → Motion) (goesIn : Bool) (number ticks pcn 
   pub quiet : d .report ≡ 0
   pub busy : d .busy ≡ true
 
-abbrev pub Seeks : ℕ → ℕ → ℕ → ℕ → ℕ → ℕ → Drive → Type 0
-Seeks number ticks pcn target final due d = Goes (Seeking target) (ltb pcn target) number ticks pcn final due d
+abbrev pub SeekDue : ℕ → ℕ → ℕ → ℕ → ℕ → ℕ → Drive → Type 0
+SeekDue number ticks pcn target final due d = Goes (Seeking target) (ltb pcn target) number ticks pcn final due d
 
 abbrev pub Recalibrates : ℕ → ℕ → ℕ → ℕ → ℕ → Drive → Type 0
 Recalibrates number ticks pcn final due d = Goes Recalibrating false number ticks pcn final due d
 
 -- 01 Stepping: over: PCN, the report, and where the head stands
-pub record Over (pcn report final : ℕ) (d : Drive) : Type 0 where
+pub record MotionOver (pcn report final : ℕ) (d : Drive) : Type 0 where
   pub still : d .motion ≡ Still
   pub pcn-is : d .pcn ≡ pcn
   pub report-is : d .report ≡ report

@@ -11,7 +11,7 @@ use Rattle.drive.specs.Due.{headAfter, recalibrateReport}
 abbrev pub recalibratedHead : ℕ → ℕ → ℕ
 recalibratedHead number head = headAfter number false (recalibrateSteps number head) head
 
-pub record Examples : Type 0 where
+pub record DriveExamples : Type 0 where
   pub ex7-from-79 : recalibrateReport 0 (recalibratedHead 0 79) ≡ 0x20
   pub ex7-from-80 : recalibrateReport 0 (recalibratedHead 0 80) ≡ 0x70
   pub ex7-head : recalibratedHead 0 80 ≡ 1

@@ -97,5 +97,5 @@ tickIn (Seeking target steps wait) number mounted ticks d = seekTick number moun
 tickIn (Recalibrating steps wait) number mounted ticks d = recalibrateTick number mounted ticks steps wait d
 
 -- drive `number`, mounted or not in this tick, with T ticks for a step
-unfoldable pub tickOf : ℕ → Bool → ℕ → Drive → Drive
-tickOf number mounted ticks d = tickIn (d .motion) number mounted ticks d
+unfoldable pub tickDrive : ℕ → Bool → ℕ → Drive → Drive
+tickDrive number mounted ticks d = tickIn (d .motion) number mounted ticks d

@@ -4,10 +4,10 @@ ghost use mathlib.Core.Path.{_≡_};
 ghost use mathlib.Core.Bool.{cond};
 ghost use Prim.Native.Nat.{_-_, _≤_};
 ghost use Rattle.drive.specs.Drive.{
-  fresh,
-  resetOf,
+  freshDrive,
+  resetDrive,
   reportedOf,
-  sensedOf,
+  sensedDrive,
   notedOf,
   distance,
   firstWait,
@@ -15,7 +15,7 @@ ghost use Rattle.drive.specs.Drive.{
   accepted,
   recalibrateOf,
   recalibrateSteps,
-  waitOf,
+  countdownOf,
   standsIn,
 };
 ghost use Rattle.drive.specs.Step.{
@@ -30,7 +30,7 @@ ghost use Rattle.drive.specs.Step.{
   seekTick,
   recalibrateTick,
   tickIn,
-  tickOf,
+  tickDrive,
 };
 
 // A Seek or Recalibrate going on: the steps still due, and the ticks until the next one, or until the end if none
@@ -111,7 +111,7 @@ impl Drive {
 
     // 01 Registers power-on.
     pub fn new(head: u8) -> Drive
-        ensures { λ r. ⌜ r ≡ fresh head ⌝ }
+        ensures { λ r. ⌜ r ≡ freshDrive head ⌝ }
     {
         Drive {
             head,
@@ -125,7 +125,7 @@ impl Drive {
 
     // 01 Registers reset.
     pub fn reset(self) -> Drive
-        ensures { λ r. ⌜ r ≡ resetOf self ⌝ }
+        ensures { λ r. ⌜ r ≡ resetDrive self ⌝ }
     {
         Drive {
             head: self.head,
@@ -146,7 +146,7 @@ impl Drive {
     }
 
     pub fn sensed(self) -> Drive
-        ensures { λ r. ⌜ r ≡ sensedOf self ⌝ }
+        ensures { λ r. ⌜ r ≡ sensedDrive self ⌝ }
     {
         let mut d = self;
         d.report = 0;
@@ -348,7 +348,7 @@ impl Drive {
 
     // A tick of drive `number`, mounted or not, with `ticks` for a step.
     pub fn tick(self, number: u8, mounted: bool, ticks: u16) -> Drive
-        ensures { λ r. ⌜ r ≡ tickOf number mounted ticks self ⌝ }
+        ensures { λ r. ⌜ r ≡ tickDrive number mounted ticks self ⌝ }
     {
         let motion = self.motion;
         self.tick_in(motion, number, mounted, ticks)
@@ -356,7 +356,7 @@ impl Drive {
 
     // 01 Refusals 4: the step countdown.
     pub fn countdown(self) -> u16
-        ensures { λ r. ⌜ r ≡ waitOf (self .motion) ⌝ }
+        ensures { λ r. ⌜ r ≡ countdownOf (self .motion) ⌝ }
     {
         let motion = self.motion;
         motion_wait(motion)
@@ -379,7 +379,7 @@ fn arrival(zero: bool) -> u8
 }
 
 fn motion_wait(motion: Motion) -> u16
-    ensures { λ r. ⌜ r ≡ waitOf motion ⌝ }
+    ensures { λ r. ⌜ r ≡ countdownOf motion ⌝ }
 {
     match motion {
         Motion::Still => 0,

@@ -14,7 +14,7 @@ use Rattle.image.specs.declared.slot.Id.{Id}
 use Rattle.chip.specs.declared.fifo.Fifo.{Fifo}
 use Rattle.chip.specs.declared.next.Next.{Next}
 use Rattle.chip.specs.declared.next.Next.the-variants.{Ended, PastEot, OtherSide, SameSide}
-use Rattle.chip.specs.Next.{nextOf, advancedOf, addressOf}
+use Rattle.chip.specs.Next.{nextOf, advancedOf, nextAddress}
 use Rattle.chip.proofs.NextLaws.{next-address, next-ended-tc}
 use Rattle.sectors.specs.declared.work.Site.{Site}
 use Rattle.sectors.specs.declared.work.Step.{Step}
@@ -46,7 +46,7 @@ thenSt0 (Ends verdict) = verdict .st0
 thenSt0 (Works work) = 0x40
 
 module _ (slot : ℕ) (site : Site) (task : Task) (fifo : Fifo) (effect : Effect) where
-  followed-id : (n : Next) → thenId (followedOf n slot site task fifo effect .then) ≡ addressOf n
+  followed-id : (n : Next) → thenId (followedOf n slot site task fifo effect .then) ≡ nextAddress n
   unfolding followedOf moveEnd endOf
   followed-id (Ended id) = refl
   followed-id (PastEot id) = refl

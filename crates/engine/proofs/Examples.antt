@@ -1,12 +1,12 @@
--- The examples of specs/Examples, each by computing.
+-- The engine-examples of specs/EngineExamples, each by computing.
 -- Assumes nothing.
 use mathlib.Core.Path.{refl}
-use Rattle.engine.specs.Examples.{Examples}
+use Rattle.engine.specs.Examples.{EngineExamples}
 use Rattle.engine.proofs.Open.{engineOpen}
 
-pub examples : Examples
+pub engine-examples : EngineExamples
 unfolding engineOpen
-examples = record {
+engine-examples = record {
   ex9 = refl;
   ex10-100-mark = refl;
   ex10-100-bytes = refl;

@@ -19,7 +19,7 @@ use Rattle.image.specs.Layout.{offsetOf, trackAt}
 use Rattle.chip.specs.declared.fifo.Fifo.{Fifo}
 use Rattle.chip.specs.declared.next.Next.{Next}
 use Rattle.chip.specs.declared.next.Next.the-variants.{Ended, PastEot, OtherSide, SameSide}
-use Rattle.chip.specs.Fifo.{Fits, emptied, fullOf, openedOf}
+use Rattle.chip.specs.Fifo.{FitsFifo, emptied, fullOf, openedOf}
 use Rattle.chip.proofs.FifoLaws.{fits-emptied, fits-filled, fits-drawn, fits-opened}
 use Rattle.engine.specs.declared.first.Gate.{Gate}
 use Rattle.engine.specs.declared.first.Gate.the-variants.{Shut, Open}
@@ -46,7 +46,7 @@ use Rattle.sectors.specs.declared.work.Then.the-variants.{Ends, Works}
 use Rattle.sectors.specs.declared.work.Verdict.{Verdict}
 use Rattle.sectors.specs.declared.work.Work.{Work}
 use Rattle.sectors.specs.declared.work.Work.the-variants.{Identifying, Moving, Formatting}
-use Rattle.engine.specs.First.{writes, taskOf, movingOf, startOf, enteredOf, beginOf}
+use Rattle.engine.specs.First.{passWrites, taskOf, movingOf, startJob, enteredOf, beginOf}
 use Rattle.sectors.specs.Follow.{freshAt, followedOf, followOf, turnOf}
 use Rattle.engine.specs.Format.{formatEnd, formsOf, formWait, formAwait, addressPut, addressOf, clearOn, formedOf, fillOf, clearOf, formOf}
 use Rattle.engine.specs.Kept.{suits, suited, jobFlow, thenWait, thenFlow, thenDrive, thenFifo, storePlace, Kept}
@@ -54,12 +54,12 @@ use Rattle.sectors.specs.Read.{overrun, sectorOver, readOn, readOf, drainedOf, 
 use Rattle.engine.specs.ReadId.{noIdOf, noIdHere, idHere, identifiedOf, identifyOf}
 use Rattle.sectors.specs.Result.{endOf, moveEnd, moveFails, movesOf}
 use Rattle.sectors.specs.Search.{matches, secondPass, notFound, missedOf, withOther, readFound, dataFound, bareFound, lookedOf, searchOf}
-use Rattle.engine.specs.Step.{lostOf, stageOf, workOf, goOnOf, siteOf, passFlow, fromHost, flowOf, waitOf, driveOf, stageWait}
+use Rattle.engine.specs.Step.{lostOf, stageOf, workStep, goOnOf, siteOf, passFlow, fromHost, flowOf, waitOf, driveOf, stageWait}
 use Rattle.sectors.specs.Track.{hasTrack, staysOf, sectorBytes, dataPlace, markPlace}
 use Rattle.sectors.specs.Write.{underrun, awaitOf, putOf, dryOf, writtenOf, storeOf}
 
 -- a pass from the host may store
-may-store : (p : Pass) (e : Effect) → writes p ≡ true → fromHost (passFlow p) ≡ false → e ≡ Nothing
+may-store : (p : Pass) (e : Effect) → passWrites p ≡ true → fromHost (passFlow p) ≡ false → e ≡ Nothing
 may-store Read e w h = absurd (false≢true w)
 may-store Write e w h = absurd (true≢false h)
 
@@ -110,7 +110,7 @@ module _ (efifo : Bool) (f : Fifo) (ok : Bool) where
     moves-kept : (stage : Stage) (fifo : Fifo) (effect : Effect)
         → stageWait stage ≤ 63
         → (ok ≡ true → suits (task .transfer .pass) stage ≡ true)
-        → (Fits efifo f → Fits efifo fifo)
+        → (FitsFifo efifo f → FitsFifo efifo fifo)
         → (ok ≡ true → fromHost (passFlow (task .transfer .pass)) ≡ false → effect ≡ Nothing)
         → 13 ≤ storePlace effect
         → Moved site task (movesOf stage site task fifo effect)
@@ -127,7 +127,7 @@ module _ (efifo : Bool) (f : Fifo) (ok : Bool) where
 
     -- 01 Next
     followed-kept : (n : Next) (slot : ℕ) (fifo : Fifo) (effect : Effect)
-        → (Fits efifo f → Fits efifo fifo)
+        → (FitsFifo efifo f → FitsFifo efifo fifo)
         → (ok ≡ true → fromHost (passFlow (task .transfer .pass)) ≡ false → effect ≡ Nothing)
         → 13 ≤ storePlace effect
         → Moved site task (followedOf n slot site task fifo effect)
@@ -156,7 +156,7 @@ module _ (efifo : Bool) (f : Fifo) (ok : Bool) where
     }
 
     follow-kept : (slot : ℕ) (tc : Bool) (fifo : Fifo) (effect : Effect)
-        → (Fits efifo f → Fits efifo fifo)
+        → (FitsFifo efifo f → FitsFifo efifo fifo)
         → (ok ≡ true → fromHost (passFlow (task .transfer .pass)) ≡ false → effect ≡ Nothing)
         → 13 ≤ storePlace effect
         → Moved site task (followOf slot tc site task fifo effect)
@@ -188,10 +188,10 @@ module _ (efifo : Bool) (f : Fifo) (ok : Bool) where
     unfolding bareFound
     bare-found-kept Read e slot = fails-kept 1 1
     bare-found-kept Write e slot =
-        moves-kept (Awaiting slot 0) f Nothing (omega arith) (λ o. ap writes e) (λ p. p) (λ o h. refl) (omega arith)
+        moves-kept (Awaiting slot 0) f Nothing (omega arith) (λ o. ap passWrites e) (λ p. p) (λ o h. refl) (omega arith)
 
   module _ (site : Site) (task : Task) where
-    read-found-kept : (other broken : Bool) (slot : ℕ) → not (writes (task .transfer .pass)) ≡ true
+    read-found-kept : (other broken : Bool) (slot : ℕ) → not (passWrites (task .transfer .pass)) ≡ true
         → Moved site task (readFound other broken slot site task f)
     unfolding readFound
     read-found-kept other broken slot e =
@@ -203,9 +203,9 @@ module _ (efifo : Bool) (f : Fifo) (ok : Bool) where
     data-found-kept : (p : Pass) → task .transfer .pass ≡ p → (deleted broken : Bool) (slot : ℕ)
         → Moved site task (dataFound p deleted broken slot site task f)
     unfolding dataFound
-    data-found-kept Read e deleted broken slot = read-found-kept _ broken slot (ap (λ (q : Pass). not (writes q)) e)
+    data-found-kept Read e deleted broken slot = read-found-kept _ broken slot (ap (λ (q : Pass). not (passWrites q)) e)
     data-found-kept Write e deleted broken slot =
-        moves-kept site task (Awaiting slot 0) f Nothing (omega arith) (λ o. ap writes e) (λ p. p) (λ o h. refl)
+        moves-kept site task (Awaiting slot 0) f Nothing (omega arith) (λ o. ap passWrites e) (λ p. p) (λ o h. refl)
         (omega arith)
 
     looked-kept : (m : Mark) (id : Id) (look : Search) → Moved site task (lookedOf m id look site task f)
@@ -226,7 +226,7 @@ module _ (efifo : Bool) (f : Fifo) (ok : Bool) where
 
     -- 01 Read
     read-on-kept : (sector : Sector) (done : ℕ) (fifo : Fifo)
-        → (ok ≡ true → not (writes (task .transfer .pass)) ≡ true) → (Fits efifo f → Fits efifo fifo)
+        → (ok ≡ true → not (passWrites (task .transfer .pass)) ≡ true) → (FitsFifo efifo f → FitsFifo efifo fifo)
         → Moved site task (readOn sector done site task fifo)
     unfolding readOn
     read-on-kept sector done fifo s p =
@@ -236,7 +236,7 @@ module _ (efifo : Bool) (f : Fifo) (ok : Bool) where
         (omega arith))
 
     read-kept : (sector : Sector) (done head : ℕ) (img : List ℕ) (fifothr : ℕ)
-        → (ok ≡ true → not (writes (task .transfer .pass)) ≡ true)
+        → (ok ≡ true → not (passWrites (task .transfer .pass)) ≡ true)
         → Moved site task (readOf sector done site task head img f efifo fifothr)
     unfolding readOf overrun
     read-kept sector done head img fifothr s =
@@ -255,7 +255,7 @@ module _ (efifo : Bool) (f : Fifo) (ok : Bool) where
         (λ u. move-end-kept site task true 0 0 (task .id) Nothing (λ o h. refl) (omega arith))
         (λ u. follow-kept site task (sector .slot) (f .tc) f Nothing (λ p. p) (λ o h. refl) (omega arith)))
 
-    drain-kept : (sector : Sector) (looks : ℕ) → (ok ≡ true → not (writes (task .transfer .pass)) ≡ true)
+    drain-kept : (sector : Sector) (looks : ℕ) → (ok ≡ true → not (passWrites (task .transfer .pass)) ≡ true)
         → Moved site task (drainOf sector looks site task f)
     unfolding drainOf
     drain-kept sector looks s =
@@ -267,7 +267,7 @@ module _ (efifo : Bool) (f : Fifo) (ok : Bool) where
         (omega (arith, leb-false 63 looks u)) s (λ p. p) (λ o h. refl) (omega arith)))
 
     -- 01 Write
-    await-kept : (slot wait head : ℕ) → (ok ≡ true → writes (task .transfer .pass) ≡ true)
+    await-kept : (slot wait head : ℕ) → (ok ≡ true → passWrites (task .transfer .pass) ≡ true)
         → Moved site task (awaitOf slot wait site task head f)
     unfolding awaitOf
     await-kept slot wait head s =
@@ -280,27 +280,27 @@ module _ (efifo : Bool) (f : Fifo) (ok : Bool) where
         (λ o. may-store (task .transfer .pass) _ (s o)) (mark-behind site head slot))
 
     put-kept : (byte slot done head : ℕ) (fifo : Fifo)
-        → (ok ≡ true → writes (task .transfer .pass) ≡ true) → (Fits efifo f → Fits efifo fifo)
+        → (ok ≡ true → passWrites (task .transfer .pass) ≡ true) → (FitsFifo efifo f → FitsFifo efifo fifo)
         → Moved site task (putOf byte slot done site task head fifo)
     unfolding putOf
     put-kept byte slot done head fifo s p =
         moves-kept site task (Storing slot (done + 1)) fifo _ (omega arith) s p
         (λ o. may-store (task .transfer .pass) _ (s o)) (data-behind site head slot done)
 
-    dry-kept : (slot done head : ℕ) → (ok ≡ true → writes (task .transfer .pass) ≡ true)
+    dry-kept : (slot done head : ℕ) → (ok ≡ true → passWrites (task .transfer .pass) ≡ true)
         → Moved site task (dryOf slot done site task head f)
     unfolding dryOf underrun
     dry-kept slot done head s =
         by-test (f .tc) (Moved site task) _ _ (λ t. put-kept 0 slot done head f s (λ p. p))
         (λ t. fails-kept site task 0x10 0)
 
-    written-kept : (slot head : ℕ) → (ok ≡ true → writes (task .transfer .pass) ≡ true)
+    written-kept : (slot head : ℕ) → (ok ≡ true → passWrites (task .transfer .pass) ≡ true)
         → Moved site task (writtenOf slot site task head f)
     unfolding writtenOf
     written-kept slot head s = follow-kept site task slot _ f _ (λ p. p)
         (λ o. may-store (task .transfer .pass) _ (s o)) (mark-behind site head slot)
 
-    store-kept : (slot done head fifothr : ℕ) → (ok ≡ true → writes (task .transfer .pass) ≡ true)
+    store-kept : (slot done head fifothr : ℕ) → (ok ≡ true → passWrites (task .transfer .pass) ≡ true)
         → Moved site task (storeOf slot done site task head f efifo fifothr)
     unfolding storeOf
     store-kept slot done head fifothr s =
@@ -356,7 +356,7 @@ module _ (efifo : Bool) (f : Fifo) (ok : Bool) where
     format-end-kept normal st1 done effect b = end-kept _ _ normal _ _ st1 0 _ effect (λ o h. absurd (true≢false h)) b
 
     forms-kept : (form : Form) (fifo : Fifo) (effect : Effect)
-        → formWait form ≤ 63 → (Fits efifo f → Fits efifo fifo) → 13 ≤ storePlace effect
+        → formWait form ≤ 63 → (FitsFifo efifo f → FitsFifo efifo fifo) → 13 ≤ storePlace effect
         → Formed site (formsOf form site plan fifo effect)
     forms-kept form fifo effect w p b = record {
       wait = w;
@@ -379,7 +379,7 @@ module _ (efifo : Bool) (f : Fifo) (ok : Bool) where
         (omega arith)))
         (λ t. forms-kept (Addressing slot 0) f _ (omega arith) (λ p. p) (mark-behind site head slot))
 
-    address-put-kept : (slot k : ℕ) (fifo : Fifo) (effect : Effect) → (Fits efifo f → Fits efifo fifo)
+    address-put-kept : (slot k : ℕ) (fifo : Fifo) (effect : Effect) → (FitsFifo efifo f → FitsFifo efifo fifo)
         → 13 ≤ storePlace effect
         → Formed site (addressPut slot k site plan fifo effect)
     unfolding addressPut
@@ -449,8 +449,8 @@ stage-kept (Storing slot done) site task head img fifo efifo fifothr =
     store-kept efifo fifo _ site task slot done head fifothr (λ o. o)
 
 work-kept : (work : Work) (head : ℕ) (img : List ℕ) (fifo : Fifo) (efifo : Bool) (fifothr : ℕ)
-    → Kept efifo fifo (suited work) (flowOf work) (driveOf work) (workOf work head img fifo efifo fifothr)
-unfolding workOf
+    → Kept efifo fifo (suited work) (flowOf work) (driveOf work) (workStep work head img fifo efifo fifothr)
+unfolding workStep
 work-kept (Identifying site slot passes) head img fifo efifo fifothr =
     identify-kept efifo fifo true site slot passes head img
 work-kept (Moving site task stage) head img fifo efifo fifothr = stage-kept stage site task head img fifo efifo fifothr
@@ -485,8 +485,8 @@ moving-kept Write transfer id site fifo efifo =
     (omega arith) (λ o. refl) (λ p. fits-opened efifo fifo p) (λ o h. refl) (omega arith)
 
 start-kept : (job : Job) (site : Site) (fifo : Fifo) (efifo : Bool)
-    → Kept efifo fifo true (jobFlow job) (site .drive) (startOf job site fifo)
-unfolding startOf
+    → Kept efifo fifo true (jobFlow job) (site .drive) (startJob job site fifo)
+unfolding startJob
 start-kept Identify site fifo efifo = record {
   wait = omega arith;
   over = refl;

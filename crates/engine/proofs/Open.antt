@@ -12,17 +12,17 @@ use Rattle.sectors.specs.Result.{endOf, moveEnd, moveFails}
 use Rattle.sectors.specs.Search.{notFound, missedOf, readFound, dataFound, bareFound, lookedOf, searchOf}
 use Rattle.sectors.specs.Track.{hasTrack, staysOf, markPlace, dataPlace}
 use Rattle.sectors.specs.Write.{underrun, awaitOf, putOf, dryOf, writtenOf, storeOf}
-use Rattle.engine.specs.First.{gateOf, givenId, movingOf, startOf, enteredOf, beginOf}
+use Rattle.engine.specs.First.{gateOf, givenId, movingOf, startJob, enteredOf, beginOf}
 use Rattle.engine.specs.Format.{formatEnd, formAwait, addressPut, addressOf, clearOn, formedOf, fillOf}
 use Rattle.engine.specs.Format.{clearOf, formOf}
 use Rattle.engine.specs.ReadId.{noIdOf, noIdHere, idHere, identifiedOf, identifyOf}
-use Rattle.engine.specs.Step.{lostOf, stageOf, workOf, goOnOf}
+use Rattle.engine.specs.Step.{lostOf, stageOf, workStep, goOnOf}
 
 unfoldable pub engineOpen : Unit {0}
 unfolding headerIn geometryIn diskIn sizeOf trackLength lengthOf trackAt offsetOf sameOf markOf filledOf takenOf
     openedOf givenOf drawnOf advancedOf nextOf followedOf followOf turnOf overrun readOn readOf drainedOf drainOf
     endOf moveEnd moveFails notFound missedOf readFound dataFound bareFound lookedOf searchOf hasTrack staysOf
-    markPlace dataPlace underrun awaitOf putOf dryOf writtenOf storeOf gateOf givenId movingOf startOf enteredOf
+    markPlace dataPlace underrun awaitOf putOf dryOf writtenOf storeOf gateOf givenId movingOf startJob enteredOf
     beginOf formatEnd formAwait addressPut addressOf clearOn formedOf fillOf clearOf formOf noIdOf noIdHere idHere
-    identifiedOf identifyOf lostOf stageOf workOf goOnOf
+    identifiedOf identifyOf lostOf stageOf workStep goOnOf
 engineOpen = tt

@@ -30,14 +30,14 @@ use Rattle.engine.specs.ReadId.{noAddress}
 use Rattle.sectors.specs.Result.{endOf, goesOf, movesOf}
 use Rattle.sectors.specs.Track.{hasTrack}
 
-abbrev pub writes : Pass → Bool
-writes Read = false
-writes Write = true
+abbrev pub passWrites : Pass → Bool
+passWrites Read = false
+passWrites Write = true
 
 -- a Write or a Format
 abbrev pub changes : Job → Bool
 changes Identify = false
-changes (Move transfer id) = writes (transfer .pass)
+changes (Move transfer id) = passWrites (transfer .pass)
 changes (Format plan) = true
 
 -- 01 Data commands: Format with N not the header's, SC 0 or SC above S
@@ -69,14 +69,14 @@ unfoldable pub movingOf : Pass → Transfer → Id → Site → Fifo → Step
 movingOf Read transfer id site fifo = movesOf (Searching (freshAt 0)) site (taskOf transfer id) fifo Nothing
 movingOf Write transfer id site fifo = movesOf (Searching (freshAt 0)) site (taskOf transfer id) (openedOf fifo) Nothing
 
-unfoldable pub startOf : Job → Site → Fifo → Step
-startOf Identify site fifo = goesOf (Identifying site 0 0) fifo Nothing
-startOf (Move transfer id) site fifo = movingOf (transfer .pass) transfer id site fifo
-startOf (Format plan) site fifo = formsOf (Awaiting 0 0) site plan (openedOf fifo) Nothing
+unfoldable pub startJob : Job → Site → Fifo → Step
+startJob Identify site fifo = goesOf (Identifying site 0 0) fifo Nothing
+startJob (Move transfer id) site fifo = movingOf (transfer .pass) transfer id site fifo
+startJob (Format plan) site fifo = formsOf (Awaiting 0 0) site plan (openedOf fifo) Nothing
 
 unfoldable pub enteredOf : Gate → Job → ℕ → ℕ → ℕ → Fifo → Step
 enteredOf (Shut st1) job drive side head fifo = endOf false drive side st1 0x00 (givenId job drive side head) Nothing
-enteredOf (Open g) job drive side head fifo = startOf job (record { drive = drive; side = side; disk = g }) fifo
+enteredOf (Open g) job drive side head fifo = startJob job (record { drive = drive; side = side; disk = g }) fifo
 
 -- 01 Data commands: the first tick does its tests and nothing else
 unfoldable pub beginOf : Order → Disk → ℕ → Fifo → Step

@@ -5,7 +5,7 @@ use Prim.Native.Nat.{ℕ, _≤_}
 use mathlib.Core.Bool.{Bool, true, false, not}
 use mathlib.Core.Path.{_≡_}
 use Rattle.chip.specs.declared.fifo.Fifo.{Fifo}
-use Rattle.chip.specs.Fifo.{emptied, Fits}
+use Rattle.chip.specs.Fifo.{emptied, FitsFifo}
 use Rattle.image.specs.declared.lent.Effect.{Effect}
 use Rattle.image.specs.declared.lent.Effect.the-variants.{Nothing, Store}
 use Rattle.engine.specs.declared.flow.Flow.{Flow}
@@ -20,17 +20,17 @@ use Rattle.sectors.specs.declared.work.Then.{Then}
 use Rattle.sectors.specs.declared.work.Then.the-variants.{Ends, Works}
 use Rattle.sectors.specs.declared.work.Work.{Work}
 use Rattle.sectors.specs.declared.work.Work.the-variants.{Identifying, Moving, Formatting}
-use Rattle.engine.specs.First.{writes}
+use Rattle.engine.specs.First.{passWrites}
 use Rattle.engine.specs.Step.{passFlow, fromHost, flowOf, waitOf, driveOf}
 
 -- a stage that a transfer of that kind has
 abbrev pub suits : Pass → Stage → Bool
 suits pass (Searching look) = true
 suits pass (Turning slot) = true
-suits pass (Reading sector done) = not (writes pass)
-suits pass (Draining sector looks) = not (writes pass)
-suits pass (Awaiting slot wait) = writes pass
-suits pass (Storing slot done) = writes pass
+suits pass (Reading sector done) = not (passWrites pass)
+suits pass (Draining sector looks) = not (passWrites pass)
+suits pass (Awaiting slot wait) = passWrites pass
+suits pass (Storing slot done) = passWrites pass
 
 abbrev pub suited : Work → Bool
 suited (Identifying site slot passes) = true
@@ -75,7 +75,7 @@ pub record Kept (efifo : Bool) (before : Fifo) (ok : Bool) (flow : Flow) (drive 
   -- 01 Result: every end empties the FIFO
   pub over : step .fifo ≡ thenFifo (step .fifo) (step .then)
   -- 01 Refusals 4: a FIFO within its capacity stays so
-  pub fits : Fits efifo before → Fits efifo (step .fifo)
+  pub fits : FitsFifo efifo before → FitsFifo efifo (step .fifo)
   -- only a Write or a Format stores
   pub stores : ok ≡ true → fromHost flow ≡ false → step .effect ≡ Nothing
   -- 01 Image: no store touches the header or the first track's tag, so that the disk met stays through the command's

@@ -47,15 +47,15 @@ stageOf (Draining sector looks) site task head img fifo efifo fifothr = drainOf 
 stageOf (Awaiting slot wait) site task head img fifo efifo fifothr = awaitOf slot wait site task head fifo
 stageOf (Storing slot done) site task head img fifo efifo fifothr = storeOf slot done site task head fifo efifo fifothr
 
-unfoldable pub workOf : Work → ℕ → List ℕ → Fifo → Bool → ℕ → Step
-workOf (Identifying site slot passes) head img fifo efifo fifothr = identifyOf slot passes site head img fifo
-workOf (Moving site task stage) head img fifo efifo fifothr = stageOf stage site task head img fifo efifo fifothr
-workOf (Formatting site plan form) head img fifo efifo fifothr = formOf form site plan head fifo efifo fifothr
+unfoldable pub workStep : Work → ℕ → List ℕ → Fifo → Bool → ℕ → Step
+workStep (Identifying site slot passes) head img fifo efifo fifothr = identifyOf slot passes site head img fifo
+workStep (Moving site task stage) head img fifo efifo fifothr = stageOf stage site task head img fifo efifo fifothr
+workStep (Formatting site plan form) head img fifo efifo fifothr = formOf form site plan head fifo efifo fifothr
 
 -- 01 Data commands: a drive emptied or header changed later: ST1 01 at that tick, before all else (R17)
 unfoldable pub goOnOf : Work → Disk → ℕ → List ℕ → Fifo → Bool → ℕ → Step
 goOnOf work disk head img fifo efifo fifothr =
-    cond (staysOf disk (siteOf work .disk)) (workOf work head img fifo efifo fifothr) (lostOf work head)
+    cond (staysOf disk (siteOf work .disk)) (workStep work head img fifo efifo fifothr) (lostOf work head)
 
 abbrev pub passFlow : Pass → Flow
 passFlow Read = ToHost

@@ -27,14 +27,14 @@ ghost use mathlib.Core.Path.{_≡_};
 ghost use mathlib.Core.Bool.{not, _||_};
 ghost use lib.Dec.{eqb, ltb};
 ghost use Rattle.engine.specs.First.{
-  writes,
+  passWrites,
   changes,
   misplanned,
   gateOf,
   givenId,
   taskOf,
   movingOf,
-  startOf,
+  startJob,
   enteredOf,
   beginOf,
 };
@@ -46,7 +46,7 @@ enum Gate {
 }
 
 fn pass_writes(pass: Pass) -> bool
-    ensures { λ r. ⌜ r ≡ writes pass ⌝ }
+    ensures { λ r. ⌜ r ≡ passWrites pass ⌝ }
 {
     match pass {
         Pass::Read => false,
@@ -151,7 +151,7 @@ fn moving(pass: Pass, transfer: Transfer, id: Id, site: Site, fifo: Fifo) -> Ste
 }
 
 fn start(job: Job, site: Site, fifo: Fifo) -> Step
-    ensures { λ r. ⌜ r ≡ startOf job site fifo ⌝ }
+    ensures { λ r. ⌜ r ≡ startJob job site fifo ⌝ }
 {
     match job {
         Job::Identify => goes(Work::Identifying(site, 0, 0), fifo, Effect::Nothing),

@@ -21,7 +21,7 @@ use sectors::work::Work;
 use sectors::write::await_byte;
 use sectors::write::store;
 ghost use mathlib.Core.Path.{_≡_};
-ghost use Rattle.engine.specs.Step.{siteOf, lostOf, stageOf, workOf, goOnOf};
+ghost use Rattle.engine.specs.Step.{siteOf, lostOf, stageOf, workStep, goOnOf};
 
 pub(crate) fn site_of(work: Work) -> Site
     ensures { λ r. ⌜ r ≡ siteOf work ⌝ }
@@ -80,7 +80,7 @@ fn stage_on(
 }
 
 fn work_on(work: Work, head: u8, s: &[u8], fifo: Fifo, efifo: bool, fifothr: u8) -> Step
-    ensures { λ r. ⌜ r ≡ workOf work head (now (s .entry)) fifo efifo fifothr ⌝ }
+    ensures { λ r. ⌜ r ≡ workStep work head (now (s .entry)) fifo efifo fifothr ⌝ }
 {
     match work {
         Work::Identifying(site, slot, passes) => identify(slot, passes, site, head, s, fifo),

@@ -2,7 +2,7 @@
 -- Assumes nothing.
 use Rattle.chip.specs.Commands.{kindOf, entryOf, kindNumbered, knownBelow}
 use Rattle.drive.specs.Step.{stepped, sought, recalibrated, seekStep, seekTick, recalibrateStep, recalibrateTick}
-use Rattle.drive.specs.Step.{tickIn, tickOf}
+use Rattle.drive.specs.Step.{tickIn, tickDrive}
 use Rattle.engine.proofs.Open.{engineOpen}
 use Rattle.fdc.specs.Answer.{answerOf}
 use Rattle.fdc.specs.Calls.{portOf, readReg, writeReg, powerOn, readPort, writePort, dmaRead, dmaWrite}
@@ -18,16 +18,16 @@ use Rattle.fdc.specs.Registers.{motorIn, busyBits, anyBusy, pendingIn, m
 use Rattle.fdc.specs.Reset.{resetAll, resetOf, reportAll, releasedBy, releasedOf, withDor, withTdr, withRate}
 use Rattle.fdc.specs.Reset.{wroteDor, wroteDsr}
 use Rattle.fdc.specs.Ticks.{seenOf, tickAll, steppedOf, st3Of, sensedAt, stillOf, settledOf, decidedOf}
-use Rattle.fdc.specs.Ticks.{startOf, workOf, decideIn, decideOf, ruledOf, tickOf as fdc·tickOf, imageAfter}
+use Rattle.fdc.specs.Ticks.{startTick, workTick, decideIn, decideOf, ruledOf, tickOf, imageAfter}
 
 unfoldable pub fdcOpen : Unit {0}
 unfolding engineOpen kindOf entryOf kindNumbered knownBelow stepped sought recalibrated seekStep seekTick
-    recalibrateStep recalibrateTick tickIn tickOf answerOf portOf readReg writeReg powerOn readPort writePort dmaRead
+    recalibrateStep recalibrateTick tickIn tickDrive answerOf portOf readReg writeReg powerOn readPort writePort dmaRead
     dmaWrite noteChange answeredOf saidOf saidTwo idledOf specifyOf configureOf sensingOf reporterOf sensedOf
     soughtOf recalibratedOf moveOrder formatOrder identifyOrder startedOf ranOf runOf gatheredOf goesOn begunOf
     resultTaken readIn readFifo offeredOf writeFifo movedOf cycleOf dmaReadOf dmaWriteOf freshOf withRegisters withDrives withFifo
     withBytes withPhase withDrive validOf motorIn busyBits anyBusy pendingIn msrOf intOf drqOf dirOf resetAll resetOf
     reportAll releasedBy releasedOf withDor withTdr withRate wroteDor wroteDsr seenOf tickAll
-    steppedOf st3Of sensedAt stillOf settledOf decidedOf startOf workOf decideIn decideOf ruledOf fdc·tickOf
+    steppedOf st3Of sensedAt stillOf settledOf decidedOf startTick workTick decideIn decideOf ruledOf tickOf
     imageAfter
 fdcOpen = tt

@@ -13,7 +13,7 @@ use Rattle.drive.specs.declared.Motion.{Motion}
 use Rattle.drive.specs.declared.Motion.the-variants.{Still, Seeking, Recalibrating}
 use Rattle.drive.specs.Drive.{standsIn}
 use Rattle.drive.specs.Step.{tickIn}
-use Rattle.drive.specs.Step.{tickOf as tickDrive}
+use Rattle.drive.specs.Step.{tickDrive}
 use Rattle.fdc.specs.declared.record.Controller.{Controller}
 use Rattle.fdc.specs.Record.{driveAt, withDrives}
 use Rattle.fdc.specs.Ticks.{tickAll, standsAt, allStand, steppedOf}

@@ -6,7 +6,7 @@ use mathlib.Core.Path.{_≡_, refl}
 use lib.Dec.{leb}
 use borrow.Author.Tests.{leb-true, le-leb}
 use Rattle.chip.specs.Fifo.{capacityOf}
-use Rattle.drive.specs.Drive.{waitOf as countdownOf}
+use Rattle.drive.specs.Drive.{countdownOf}
 use Rattle.fdc.specs.declared.record.Controller.{Controller}
 use Rattle.fdc.specs.Record.{resultRoom, driveAt, phaseWait, validOf}
 

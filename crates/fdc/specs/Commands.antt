@@ -28,7 +28,7 @@ use Rattle.chip.specs.Fifo.{emptied}
 use Rattle.chip.specs.Stepping.{stepTicks}
 use Rattle.drive.specs.declared.Drive.{Drive}
 use Rattle.drive.specs.Drive.{seekOf, recalibrateOf}
-use Rattle.drive.specs.Drive.{sensedOf as sensedDrive}
+use Rattle.drive.specs.Drive.{sensedDrive}
 use Rattle.sectors.specs.declared.order.Order.{Order}
 use Rattle.sectors.specs.declared.order.Pass.{Pass}
 use Rattle.sectors.specs.declared.order.Pass.the-variants.{Read, Write}
@@ -124,21 +124,21 @@ sensedOf c =
     cond (eqb k 4) (saidOf 0x80 c) (saidTwo (d .report) (d .pcn) (withDrive (k % 4) (sensedDrive d) c))
 
 -- 01 Stepping: T by SRT
-abbrev pub ticksOf : Controller → ℕ
-ticksOf c = stepTicks (c .registers .spec1 / 16)
+abbrev pub stepTime : Controller → ℕ
+stepTime c = stepTicks (c .registers .spec1 / 16)
 
 -- 01 Commands Seek, Recalibrate: 80 for a busy drive (house)
 unfoldable pub soughtOf : Controller → Controller
 soughtOf c =
     let k = commandByte 1 c % 4 in
     let d = driveAt k (c .drives) in
-    cond (d .busy) (saidOf 0x80 c) (idledOf (withDrive k (seekOf (commandByte 2 c) (ticksOf c) d) c))
+    cond (d .busy) (saidOf 0x80 c) (idledOf (withDrive k (seekOf (commandByte 2 c) (stepTime c) d) c))
 
 unfoldable pub recalibratedOf : Controller → Controller
 recalibratedOf c =
     let k = commandByte 1 c % 4 in
     let d = driveAt k (c .drives) in
-    cond (d .busy) (saidOf 0x80 c) (idledOf (withDrive k (recalibrateOf k (ticksOf c) d) c))
+    cond (d .busy) (saidOf 0x80 c) (idledOf (withDrive k (recalibrateOf k (stepTime c) d) c))
 
 -- 01 Commands: code, side and drive (bit 2, bits 1-0), C H R N, EOT, GPL, DTL. DTL has its room in the transfer, for a
 -- header with N 0 (02 2026-05): there is none, so it is cleared

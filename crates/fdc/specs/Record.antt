@@ -9,8 +9,8 @@ use Rattle.chip.specs.declared.fifo.Fifo.{Fifo}
 use Rattle.chip.specs.Fifo.{emptied, withinOf}
 use Rattle.drive.specs.declared.Drive.{Drive}
 use Rattle.drive.specs.declared.Motion.the-variants.{Still}
-use Rattle.drive.specs.Drive.{fresh}
-use Rattle.drive.specs.Drive.{waitOf as countdownOf}
+use Rattle.drive.specs.Drive.{freshDrive}
+use Rattle.drive.specs.Drive.{countdownOf}
 use Rattle.engine.specs.Step.{waitOf}
 use Rattle.fdc.specs.declared.record.Registers.{Registers}
 use Rattle.fdc.specs.declared.record.Bytes.{Bytes}
@@ -51,7 +51,7 @@ unfoldable pub freshOf : ℕ → ℕ → Controller
 freshOf head0 head1 =
     record {
       registers = freshRegisters;
-      drives = fresh head0 ∷ fresh head1 ∷ fresh 0 ∷ fresh 0 ∷ [];
+      drives = freshDrive head0 ∷ freshDrive head1 ∷ freshDrive 0 ∷ freshDrive 0 ∷ [];
       fifo = emptied;
       bytes = noBytes;
       phase = Idle;

@@ -7,7 +7,7 @@ use lib.Dec.{eqb}
 use Rattle.chip.specs.Fifo.{emptied}
 use Rattle.drive.specs.declared.Drive.{Drive}
 use Rattle.drive.specs.Drive.{reportedOf}
-use Rattle.drive.specs.Drive.{resetOf as resetDrive}
+use Rattle.drive.specs.Drive.{resetDrive}
 use Rattle.fdc.specs.declared.record.Registers.{Registers}
 use Rattle.fdc.specs.declared.record.Phase.the-variants.{Idle}
 use Rattle.fdc.specs.declared.record.Controller.{Controller}

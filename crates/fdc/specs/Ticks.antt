@@ -8,7 +8,7 @@ use lib.Dec.{eqb, ltb}
 use Rattle.chip.specs.declared.fifo.Fifo.{Fifo}
 use Rattle.drive.specs.declared.Drive.{Drive}
 use Rattle.drive.specs.Drive.{standsIn}
-use Rattle.drive.specs.Step.{tickOf as tickDrive}
+use Rattle.drive.specs.Step.{tickDrive}
 use Rattle.sectors.specs.declared.order.Order.{Order}
 use Rattle.sectors.specs.declared.work.Step.{Step}
 use Rattle.sectors.specs.declared.work.Then.{Then}
@@ -29,7 +29,7 @@ use Rattle.fdc.specs.declared.answer.Answer.{Answer}
 use Rattle.fdc.specs.declared.answer.Reply.{Reply}
 use Rattle.fdc.specs.declared.answer.Reply.the-variants.{Done}
 use Rattle.fdc.specs.Answer.{refused, answerOf}
-use Rattle.fdc.specs.Commands.{answeredOf, saidOf, ticksOf}
+use Rattle.fdc.specs.Commands.{answeredOf, saidOf, stepTime}
 use Rattle.fdc.specs.Record.{padded, driveAt, validOf, withDrives, withFifo, withPhase}
 use Rattle.fdc.specs.Registers.{heldIn, motorIn}
 
@@ -66,7 +66,7 @@ unfoldable pub steppedOf : List ℕ → List ℕ → Controller → Controller
 steppedOf a b c =
     withDrives
     (tickAll (c .drives) (presentIn (seenOf (c .registers .dor) 0 a)) (presentIn (seenOf (c .registers .dor) 1 b))
-    (ticksOf c))
+    (stepTime c))
     c
 
 -- 01 Commands Sense Drive: write protect 40, track 0 10 (the head at 0, never for drives 2 and 3), 28 always, side
@@ -96,16 +96,16 @@ decidedOf drive step c =
     record { controller = settledOf (step .then) (step .fifo) c; drive = drive; effect = step .effect }
 
 -- the first tick of a data command, Read ID or Format
-unfoldable pub startOf : Order → List ℕ → Controller → Decision
-startOf order img c =
+unfoldable pub startTick : Order → List ℕ → Controller → Decision
+startTick order img c =
     decidedOf (order .drive)
     (beginOf order (seenOf (c .registers .dor) (order .drive) img) (driveAt (order .drive % 4) (c .drives) .head)
     (c .fifo))
     c
 
 -- and its later ones
-unfoldable pub workOf : Work → List ℕ → Controller → Decision
-workOf work img c =
+unfoldable pub workTick : Work → List ℕ → Controller → Decision
+workTick work img c =
     decidedOf (driveOf work)
     (goOnOf work (seenOf (c .registers .dor) (driveOf work) img) (driveAt (driveOf work % 4)
     (c .drives) .head) img (c .fifo)
@@ -116,8 +116,8 @@ workOf work img c =
 unfoldable pub decideIn : Phase → List ℕ → List ℕ → Controller → Decision
 decideIn Idle a b c = stillOf c
 decideIn (Gathering entry) a b c = stillOf c
-decideIn (Starting order) a b c = startOf order (pickOf (order .drive) a b) c
-decideIn (Working work) a b c = workOf work (pickOf (driveOf work) a b) c
+decideIn (Starting order) a b c = startTick order (pickOf (order .drive) a b) c
+decideIn (Working work) a b c = workTick work (pickOf (driveOf work) a b) c
 decideIn (Sensing unit) a b c = stillOf (sensedAt unit (pickOf (unit % 4) a b) c)
 decideIn (Answering loud) a b c = stillOf c
 

@@ -39,8 +39,8 @@ ghost use Rattle.fdc.specs.Ticks.{
   stillOf,
   settledOf,
   decidedOf,
-  startOf,
-  workOf,
+  startTick,
+  workTick,
   decideIn,
   decideOf,
   tickOf,
@@ -188,7 +188,7 @@ impl Controller {
     }
 
     fn start(self, order: Order, s: &[u8]) -> Decision
-        ensures { λ r. ⌜ r ≡ startOf order (now (s .entry)) self ⌝ }
+        ensures { λ r. ⌜ r ≡ startTick order (now (s .entry)) self ⌝ }
     {
         let d = self.drive(order.drive);
         let fifo = self.fifo;
@@ -197,7 +197,7 @@ impl Controller {
     }
 
     fn work(self, work: Work, s: &[u8]) -> Decision
-        ensures { λ r. ⌜ r ≡ workOf work (now (s .entry)) self ⌝ }
+        ensures { λ r. ⌜ r ≡ workTick work (now (s .entry)) self ⌝ }
     {
         let drive = drive_of(work);
         let d = self.drive(drive);

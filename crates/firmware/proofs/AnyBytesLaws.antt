@@ -26,11 +26,11 @@ use Rattle.pack.specs.declared.flat.Flat.{Flat}
 use Rattle.pack.specs.declared.flat.Spot.{Spot}
 use Rattle.pack.specs.Back.{Typed}
 use Rattle.pack.specs.Bytes.{wideOf, byteAt, recordSize, recordIn, isRecord, courseOf, motionOf, flatIn, fifoBytes}
-use Rattle.pack.specs.Bytes.{flowBytes, bytesOf, fifoPut, storedOf, fifoStored}
+use Rattle.pack.specs.Bytes.{flowBytes, recordBytes, fifoPut, storedOf, fifoStored}
 use Rattle.pack.specs.Places.{driveRow, fifoRow, spotRow, waitAt, doneAt}
-use Rattle.pack.specs.Flat.{stageSpot, formSpot, jobFlat, workFlat, phaseFlat, stageOf, formOf, jobOf, workOf, phaseOf}
+use Rattle.pack.specs.Flat.{stageSpot, formSpot, jobFlat, workFlat, phaseFlat, stageFrom, formFrom, jobFrom, workFrom, phaseFrom}
 use Rattle.pack.proofs.BackLaws.{version-refused, zeros-refused}
-use Rattle.capi.specs.Calls.{writtenOf, cycledOf, wordFrom, bytesFrom, cycleFrom, powerWord, imageFrom, longFrom}
+use Rattle.capi.specs.Calls.{writtenBack, cycledOf, wordBack, bytesFrom, cycleFrom, powerWord, imageFrom, longFrom}
 use Rattle.capi.specs.Calls.{firstFrom, secondFrom}
 use Rattle.capi.specs.Word.{noRecord}
 use Rattle.firmware.specs.Calls.{World, BelCall, power-on, read-port, write-port, dma-read, dma-write, tick}
@@ -55,8 +55,8 @@ motion-brief tag target steps wait h =
     by-test (eqb tag 0) (λ (m : Motion). courseOf m .wait < 0x10000) _ _ (λ _. omega arith)
     (λ _. by-test (eqb tag 1) (λ (m : Motion). courseOf m .wait < 0x10000) _ _ (λ _. h) (λ _. h))
 
-stage-done : (spot : Spot) → spot .done < 0x10000 → stageSpot (stageOf spot) .done < 0x10000
-unfolding stageOf
+stage-done : (spot : Spot) → spot .done < 0x10000 → stageSpot (stageFrom spot) .done < 0x10000
+unfolding stageFrom
 stage-done spot h =
     let P : Stage → Type 0 = λ s. stageSpot s .done < 0x10000 in
     by-test (eqb (spot .stage) 0) P _ _ (λ _. omega arith)
@@ -65,16 +65,16 @@ stage-done spot h =
     (λ _. by-test (eqb (spot .stage) 3) P _ _ (λ _. omega arith)
     (λ _. by-test (eqb (spot .stage) 4) P _ _ (λ _. omega arith) (λ _. h)))))
 
-form-done : (spot : Spot) → spot .done < 0x10000 → formSpot (formOf spot) .done < 0x10000
-unfolding formOf
+form-done : (spot : Spot) → spot .done < 0x10000 → formSpot (formFrom spot) .done < 0x10000
+unfolding formFrom
 form-done spot h =
     let P : Form → Type 0 = λ s. formSpot s .done < 0x10000 in
     by-test (eqb (spot .form) 0) P _ _ (λ _. omega arith)
     (λ _. by-test (eqb (spot .form) 1) P _ _ (λ _. omega arith)
     (λ _. by-test (eqb (spot .form) 2) P _ _ (λ _. h) (λ _. omega arith)))
 
-phase-done : (f : Flat) → f .spot .done < 0x10000 → phaseFlat (phaseOf f) .spot .done < 0x10000
-unfolding phaseOf jobOf workOf
+phase-done : (f : Flat) → f .spot .done < 0x10000 → phaseFlat (phaseFrom f) .spot .done < 0x10000
+unfolding phaseFrom jobFrom workFrom
 phase-done f h =
     let P : Phase → Type 0 = λ p. phaseFlat p .spot .done < 0x10000 in
     let J : Job → Type 0 = λ j. jobFlat (f .site .drive) (f .site .side) j .spot .done < 0x10000 in
@@ -114,7 +114,7 @@ same-world w call b f s = rw (b, f, s)
 
 pub no-record : (w : World) → isRecord (w .bytes) ≡ false → (call : BelCall) → NeedsRecord call
     → (wordTo call w ≡ noRecord) × (worldAfter call w ≡ w)
-unfolding wordTo bytesAfter firstAfter secondAfter wordFrom bytesFrom cycleFrom imageFrom longFrom firstFrom secondFrom
+unfolding wordTo bytesAfter firstAfter secondAfter wordBack bytesFrom cycleFrom imageFrom longFrom firstFrom secondFrom
 no-record w h (power-on head0 head1) n = absurd n
 no-record w h (read-port offset) n = (rw h, rw h)
 no-record w h (write-port offset byte) n = (rw h, rw h)
@@ -137,7 +137,7 @@ abbrev Behind : List ℕ → List ℕ → Type 0
 Behind l after = drop recordSize after ≡ drop recordSize l
 
 behind-stored : (c : Controller) (l : List ℕ) → Behind l (storedOf c l)
-unfolding storedOf bytesOf
+unfolding storedOf recordBytes
 behind-stored c l = by-test (leb recordSize (length l)) (Behind l) _ _ (λ _. refl) (λ _. refl)
 
 drop-sets : (vs l : List ℕ) (i n : ℕ) → i + length vs ≤ n → drop n (sets l i vs) ≡ drop n l
@@ -151,7 +151,7 @@ behind-fifo f l =
     (λ _. drop-sets (fifoBytes f ++ flowBytes f) l fifoRow recordSize (omega arith)) (λ _. refl)
 
 behind-written : (answer : Answer) (l : List ℕ) → Behind l (bytesFrom l answer)
-unfolding bytesFrom writtenOf
+unfolding bytesFrom writtenBack
 behind-written answer l =
     by-test (isRecord l) (Behind l) _ _
     (λ _. by-test (eqb (numberIn (answer .reply)) 0) (Behind l) _ _ (λ _. behind-stored (answer .controller) l)

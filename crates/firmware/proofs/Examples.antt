@@ -1,4 +1,4 @@
--- A write by the library's calls alone (specs/Examples): by computation on the box that the bytes show.
+-- A write by the library's calls alone (specs/FirmwareExamples): by computation on the box that the bytes show.
 -- Assumes nothing.
 use Prim.Native.Nat.{ℕ}
 use native.Mathlib.Omega.{arith}
@@ -16,11 +16,11 @@ use Rattle.reached.proofs.Open.{callsOpen}
 use Rattle.capi.specs.Word.{wordIn}
 use Rattle.firmware.specs.Calls.{World, BelCall, power-on, dma-write, ticks, worldLeft}
 use Rattle.firmware.specs.Calls.{firstAfter, secondAfter, worldAfter}
-use Rattle.firmware.specs.Examples.{blank, asked, begun, writer, written, sectorOne, ordered, served, Examples}
+use Rattle.firmware.specs.Examples.{blank, asked, begun, writer, written, sectorOne, ordered, served, FirmwareExamples}
 use Rattle.firmware.specs.FromFirmware.{Stays, Accepted, storesOn}
-use Rattle.firmware.specs.Inside.{storesOf, storesIn}
-use Rattle.firmware.specs.Lists.{Shows, Follows}
-use Rattle.firmware.specs.Made.{Box, ticksFrom, ticksMade, callsIn, boxLeft, callsMade, lastOf, wordBy}
+use Rattle.firmware.specs.Inside.{storesMade, storesIn}
+use Rattle.firmware.specs.Lists.{ShowsBox, FollowsBox}
+use Rattle.firmware.specs.Made.{Box, tickCalls, ticksMade, callsIn, boxLeft, callsMade, lastOf, wordBy}
 use Rattle.firmware.proofs.AnyBytesLaws.{any-bytes}
 use Rattle.firmware.proofs.FirmwareLaws.{from-firmware}
 use Rattle.firmware.proofs.ListLaws.{over-lists}
@@ -29,7 +29,7 @@ abbrev powered : Box
 powered = record { controller = powerOn 0 0 .controller; first = sample 2; second = [] }
 
 -- after power-on and any calls
-follows : (calls : List BelCall) → Follows (worldAfter (power-on 0 0) blank) powered calls
+follows : (calls : List BelCall) → FollowsBox (worldAfter (power-on 0 0) blank) powered calls
 follows calls =
     let p = any-bytes blank .powered (omega arith) 0 0 in
     over-lists (worldAfter (power-on 0 0) blank) powered (p .0) (p .1) calls
@@ -52,14 +52,14 @@ accepts : Accepted begun writer ordered written sectorOne (disk 1 1 2 1)
 unfolding worldLeft firstAfter
 accepts = record { holds = follows asked .shows .record-is; real = real; writes = writes; disk = mounts }
 
-stores-same : (n : ℕ) (w : World) (x : Box) → Shows w x
+stores-same : (n : ℕ) (w : World) (x : Box) → ShowsBox w x
     → storesOn n w ≡ storesIn n (x .first) (x .second) (x .controller)
 stores-same n w x s = rw (s .first, s .second, s .record-is .back)
 
-pub examples : Examples
-unfolding callsOpen imageLeft Its wordIn worldLeft firstAfter secondAfter callsIn boxLeft callsMade ticksFrom ticksMade
-    lastOf wordBy Stays storesOf
-examples =
+pub firmware-examples : FirmwareExamples
+unfolding callsOpen imageLeft Its wordIn worldLeft firstAfter secondAfter callsIn boxLeft callsMade tickCalls ticksMade
+    lastOf wordBy Stays storesMade
+firmware-examples =
     record {
       accepted = accepts;
       its = (refl, (refl, (refl, (refl, (refl, tt)))));

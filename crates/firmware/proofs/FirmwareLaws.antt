@@ -25,17 +25,17 @@ use Rattle.reached.specs.Runs.{ticks as one-tick}
 use Rattle.fdc.specs.Ticks.{ruledOf, imageAfter}
 use Rattle.demands.specs.Work.{AllOfBytes, Real, Its, imageBy, imageLeft, Handed, Alone}
 use Rattle.demands.proofs.PowerCutLaws.{power-cut}
-use Rattle.pack.specs.Back.{Holds, Typed}
+use Rattle.pack.specs.Back.{HoldsRecord, Typed}
 use Rattle.pack.specs.Bytes.{recordSize, recordIn}
-use Rattle.many_ticks.specs.Run.{Ran, changed, ticksOf}
+use Rattle.many_ticks.specs.Run.{Ran, changed, manyTicks}
 use Rattle.firmware.specs.Calls.{World, BelCall, power-on, read-port, write-port, dma-read, dma-write, tick}
 use Rattle.firmware.specs.Calls.{note-change, ticks, lends, worldAfter, worldLeft}
-use Rattle.firmware.specs.Made.{Box, ticksFrom, ticksMade, callsIn, boxBy, boxAfter, boxLeft, callsMade}
-use Rattle.firmware.specs.Inside.{Stored, putAll, storesIn, ImagesOf}
-use Rattle.firmware.specs.Lists.{Shows}
-use Rattle.firmware.specs.FromFirmware.{StaysBy, Stays, imageOf, boxOf, Accepted, LeftAfter, inside}
+use Rattle.firmware.specs.Made.{Box, tickCalls, ticksMade, callsIn, boxBy, boxAfter, boxLeft, callsMade}
+use Rattle.firmware.specs.Inside.{StoreMade, putAll, storesIn, ImagesOf}
+use Rattle.firmware.specs.Lists.{ShowsBox}
+use Rattle.firmware.specs.FromFirmware.{StaysBy, Stays, worldImage, boxOf, Accepted, LeftAfter, inside}
 use Rattle.firmware.specs.FromFirmware.{FromFirmware}
-use Rattle.firmware.specs.FromFirmware.{AllOfBytes as AllBel}
+use Rattle.firmware.specs.FromFirmware.{AllBelBytes}
 use Rattle.firmware.proofs.AnyBytesLaws.{any-bytes}
 use Rattle.firmware.proofs.InsideLaws.{made-short, made-most, stores-in-order}
 use Rattle.firmware.proofs.ListLaws.{over-lists, lent-record}
@@ -47,15 +47,15 @@ bytes-join : (calls more : List Call) → AllOfBytes calls → AllOfBytes more �
 bytes-join [] more p q = q
 bytes-join (call ∷ calls) more p q = (p .0, bytes-join calls more (p .1) q)
 
-from-bytes : (n : ℕ) (a b : List ℕ) (c : Controller) → AllOfBytes (ticksFrom n a b c)
-unfolding ticksFrom
+from-bytes : (n : ℕ) (a b : List ℕ) (c : Controller) → AllOfBytes (tickCalls n a b c)
+unfolding tickCalls
 from-bytes zero a b c = tt
 from-bytes (suc n) a b c =
     go (changed (intOf c) (drqOf c) (answerTo (one-tick a b) c .int) (answerTo (one-tick a b) c .drq))
     (from-bytes n (imageAfter 0 a b c a) (imageAfter 1 a b c b) (after (one-tick a b) c))
   where
     rest : List Call
-    rest = ticksFrom n (imageAfter 0 a b c a) (imageAfter 1 a b c b) (after (one-tick a b) c)
+    rest = tickCalls n (imageAfter 0 a b c a) (imageAfter 1 a b c b) (after (one-tick a b) c)
 
     go : (t : Bool) → AllOfBytes rest → AllOfBytes (one-tick a b ∷ cond t [] rest)
     go true later = (tt, tt)
@@ -65,11 +65,11 @@ made-bytes : (n : ℕ) (a b : List ℕ) (c : Controller) → AllOfBytes (ticksMa
 unfolding ticksMade
 made-bytes n a b c = go (validOf c)
   where
-    go : (t : Bool) → AllOfBytes (cond t (ticksFrom n a b c) [])
+    go : (t : Bool) → AllOfBytes (cond t (tickCalls n a b c) [])
     go true = from-bytes n a b c
     go false = tt
 
-in-bytes : (call : BelCall) (x : Box) → AllBel (call ∷ []) → AllOfBytes (callsIn call x)
+in-bytes : (call : BelCall) (x : Box) → AllBelBytes (call ∷ []) → AllOfBytes (callsIn call x)
 unfolding callsIn
 in-bytes (power-on head0 head1) x o = (o .0, tt)
 in-bytes (read-port offset) x o = (o .0, tt)
@@ -81,7 +81,7 @@ in-bytes (note-change drive) x o = (o .0, tt)
 in-bytes (ticks n) x o = made-bytes n (x .first) (x .second) (x .controller)
 in-bytes (lends a b) x o = tt
 
-all-bytes : (calls : List BelCall) (x : Box) → AllBel calls → AllOfBytes (callsMade calls x)
+all-bytes : (calls : List BelCall) (x : Box) → AllBelBytes calls → AllOfBytes (callsMade calls x)
 unfolding callsMade
 all-bytes [] x o = tt
 all-bytes (call ∷ calls) x o =
@@ -136,8 +136,8 @@ unfoldable Fed : List Call → List ℕ → List ℕ → Controller → Type 0
 Fed [] a b c = Unit {0}
 Fed (call ∷ calls) a b c = FedBy a b call × Fed calls (imageBy 0 a call c) (imageBy 1 b call c) (after call c)
 
-fed-from : (n : ℕ) (a b : List ℕ) (c : Controller) → Fed (ticksFrom n a b c) a b c
-unfolding ticksFrom Fed
+fed-from : (n : ℕ) (a b : List ℕ) (c : Controller) → Fed (tickCalls n a b c) a b c
+unfolding tickCalls Fed
 fed-from zero a b c = tt
 fed-from (suc n) a b c =
     go (changed (intOf c) (drqOf c) (answerTo (one-tick a b) c .int) (answerTo (one-tick a b) c .drq))
@@ -150,7 +150,7 @@ fed-from (suc n) a b c =
     second = imageAfter 1 a b c b
 
     rest : List Call
-    rest = ticksFrom n first second (after (one-tick a b) c)
+    rest = tickCalls n first second (after (one-tick a b) c)
 
     go : (t : Bool) → Fed rest first second (after (one-tick a b) c) → Fed (one-tick a b ∷ cond t [] rest) a b c
     go true later = ((refl, refl), tt)
@@ -160,7 +160,7 @@ fed-made : (n : ℕ) (a b : List ℕ) (c : Controller) → Fed (ticksMade n a b 
 unfolding ticksMade Fed
 fed-made n a b c = go (validOf c)
   where
-    go : (t : Bool) → Fed (cond t (ticksFrom n a b c) []) a b c
+    go : (t : Bool) → Fed (cond t (tickCalls n a b c) []) a b c
     go true = fed-from n a b c
     go false = tt
 
@@ -254,13 +254,13 @@ own drive (call ∷ calls) x s =
     }
 
 -- what is lent, as a box
-shows-of : (w : World) (c : Controller) → Holds (w .bytes) c → Shows w (boxOf c w)
+shows-of : (w : World) (c : Controller) → HoldsRecord (w .bytes) c → ShowsBox w (boxOf c w)
 shows-of w c h = record { record-is = h; first = refl; second = refl }
 
 typed-real : (c : Controller) → Real c → Typed c
 typed-real c r = rw (← r .run) (typed-run (r .calls) _ (typed-power-on (r .head0) (r .head1)))
 
-real-after : (w : World) → recordSize ≤ length (w .bytes) → (head0 head1 : ℕ) (calls : List BelCall) → AllBel calls
+real-after : (w : World) → recordSize ≤ length (w .bytes) → (head0 head1 : ℕ) (calls : List BelCall) → AllBelBytes calls
     → Real (recordIn (worldLeft (power-on head0 head1 ∷ calls) w .bytes))
 unfolding worldLeft
 real-after w long head0 head1 calls o =
@@ -328,16 +328,16 @@ its-short [] more j c its = first more j c its
 
 module _ (w : World) (c : Controller) (order : Order) (transfer : Transfer) (id : Id) (g : Geometry)
     (accepted : Accepted w c order transfer id g) where
-  follows : (calls : List BelCall) → Shows (worldLeft calls w) (boxLeft calls (boxOf c w))
+  follows : (calls : List BelCall) → ShowsBox (worldLeft calls w) (boxLeft calls (boxOf c w))
   follows calls = over-lists w (boxOf c w) (shows-of w c (accepted .holds)) (typed-real c (accepted .real)) calls .shows
 
   cut : (calls : List BelCall) → Its (callsMade calls (boxOf c w)) c → Stays (order .drive) calls (boxOf c w)
-      → LeftAfter w c order transfer id g calls (imageOf (order .drive) (worldLeft calls w))
+      → LeftAfter w c order transfer id g calls (worldImage (order .drive) (worldLeft calls w))
   cut calls its stays =
       let o = own (order .drive) calls (boxOf c w) stays in
       let f = follows calls in
       subst (LeftAfter w c order transfer id g calls) (o .image ∙ rw (f .first, f .second))
-      (power-cut c (accepted .real) order transfer id (accepted .writes) (imageOf (order .drive) w) g (accepted .disk)
+      (power-cut c (accepted .real) order transfer id (accepted .writes) (worldImage (order .drive) w) g (accepted .disk)
       (callsMade calls (boxOf c w)) its (o .alone))
 
   -- after some calls, many ticks
@@ -348,13 +348,13 @@ module _ (w : World) (c : Controller) (order : Order) (transfer : Transfer) (id 
     abbrev v : World
     v = worldLeft calls w
 
-    abbrev stores : List Stored
+    abbrev stores : List StoreMade
     stores = take i (storesIn n (y .first) (y .second) (y .controller))
 
     -- those of a run of j, in the firmware's memory
     images : (j : ℕ)
         → ImagesOf j (y .first) (y .second) (y .controller) (putAll 0 stores (y .first)) (putAll 1 stores (y .second))
-        → imageOf (order .drive) (worldLeft (calls ++ (ticks j ∷ [])) w) ≡ imageOf (order .drive) (inside n i v)
+        → worldImage (order .drive) (worldLeft (calls ++ (ticks j ∷ [])) w) ≡ worldImage (order .drive) (inside n i v)
     images j at =
         let f = follows (calls ++ (ticks j ∷ [])) in
         let s = follows calls in
@@ -368,10 +368,10 @@ module _ (w : World) (c : Controller) (order : Order) (transfer : Transfer) (id 
 
     cut-in : Its (callsMade (calls ++ (ticks n ∷ [])) (boxOf c w)) c → Stays (order .drive) calls (boxOf c w)
         → (j : ℕ) × ((j ≤ n)
-        × LeftAfter w c order transfer id g (calls ++ (ticks j ∷ [])) (imageOf (order .drive) (inside n i v)))
+        × LeftAfter w c order transfer id g (calls ++ (ticks j ∷ [])) (worldImage (order .drive) (inside n i v)))
     cut-in its stays =
         let (j, at) = stores-in-order n (y .first) (y .second) (y .controller) .each i in
-        let made : ticksOf n (y .first) (y .second) (y .controller) .made
+        let made : manyTicks n (y .first) (y .second) (y .controller) .made
         ≡ length (ticksMade n (y .first) (y .second) (y .controller)) =
         ap (λ (r : Ran). r .made) (ticks-are n (y .first) (y .second) (y .controller)) in
         let most = made-most n (y .first) (y .second) (y .controller) in

@@ -22,9 +22,9 @@ use Rattle.reached.specs.Runs.{Call, powers, reads, writes, takes, gives, notes
 use Rattle.reached.specs.Runs.{ticks as one-tick}
 use Rattle.fdc.specs.Ticks.{tickOf, ruledOf, imageAfter}
 use Rattle.demands.specs.Work.{imageBy, imageLeft}
-use Rattle.many_ticks.specs.Run.{Ran, ranOf, ticked, changed, changedIn, runOf, startOf, refusedOf, ticksOf}
-use Rattle.firmware.specs.Made.{ticksFrom, ticksMade, lastOf}
-use Rattle.firmware.specs.Inside.{stopped, thenRan, goesOn, TicksSplit, Stored, storeBy, storesOf}
+use Rattle.many_ticks.specs.Run.{Ran, ranWith, ranOn, changed, changedIn, ranFor, noTickMade, refusedOf, manyTicks}
+use Rattle.firmware.specs.Made.{tickCalls, ticksMade, lastOf}
+use Rattle.firmware.specs.Inside.{stopped, thenRan, thenTicks, TicksSplit, StoreMade, storeBy, storesMade}
 use Rattle.firmware.specs.Inside.{putAll, storesIn, ImagesOf, StoresInOrder}
 use Rattle.firmware.proofs.RanLaws.{run-is, ticks-are}
 use Rattle.firmware.proofs.TypedLaws.{valid-ticked}
@@ -59,36 +59,36 @@ tick-going : (a b : List ℕ) (c : Controller) → validOf c ≡ true → Going 
 unfolding tickOf answerOf
 tick-going a b c v = record { valid = valid-ticked a b c v; is = rw v }
 
-run-going : (n : ℕ) (r : Ran) → Going (r .answer) → Going (runOf n r .answer)
-unfolding runOf ticked
+run-going : (n : ℕ) (r : Ran) → Going (r .answer) → Going (ranFor n r .answer)
+unfolding ranFor ranOn
 run-going zero r g = g
 run-going (suc n) r g =
     let t : Going (tickOf (r .first) (r .second) (r .answer .controller)) = tick-going _ _ _ (g .valid) in
-    by-test (changedIn (r .answer) (ticked r .answer)) (λ (q : Ran). Going (q .answer)) (ticked r) (runOf n (ticked r))
-    (λ _. t) (λ _. run-going n (ticked r) t)
+    by-test (changedIn (r .answer) (ranOn r .answer)) (λ (q : Ran). Going (q .answer)) (ranOn r) (ranFor n (ranOn r))
+    (λ _. t) (λ _. run-going n (ranOn r) t)
 
 -- a run of k and m more
 split-at : (k m : ℕ) (r : Ran)
-    → runOf (k + m) r ≡ cond (changedIn (r .answer) (runOf k r .answer)) (runOf k r) (runOf m (runOf k r))
-unfolding runOf ticked
+    → ranFor (k + m) r ≡ cond (changedIn (r .answer) (ranFor k r .answer)) (ranFor k r) (ranFor m (ranFor k r))
+unfolding ranFor ranOn
 split-at zero m r =
     let e : 0 + m ≡ m = omega arith in
     rw (same-lines (r .answer .int) (r .answer .drq), e)
 split-at (suc k) m r =
     let e : suc k + m ≡ suc (k + m) = omega arith in
-    ap (λ (n : ℕ). runOf n r) e ∙ go (changedIn (r .answer) (ticked r .answer)) refl (split-at k m (ticked r))
+    ap (λ (n : ℕ). ranFor n r) e ∙ go (changedIn (r .answer) (ranOn r .answer)) refl (split-at k m (ranOn r))
   where
     q : Ran
-    q = ticked r
+    q = ranOn r
 
     Goal : Bool → Type 0
     Goal t =
-        cond t q (runOf (k + m) q)
-        ≡ cond (changedIn (r .answer) (cond t q (runOf k q) .answer)) (cond t q (runOf k q))
-        (runOf m (cond t q (runOf k q)))
+        cond t q (ranFor (k + m) q)
+        ≡ cond (changedIn (r .answer) (cond t q (ranFor k q) .answer)) (cond t q (ranFor k q))
+        (ranFor m (cond t q (ranFor k q)))
 
     go : (t : Bool) → changedIn (r .answer) (q .answer) ≡ t
-        → runOf (k + m) q ≡ cond (changedIn (q .answer) (runOf k q .answer)) (runOf k q) (runOf m (runOf k q)) → Goal t
+        → ranFor (k + m) q ≡ cond (changedIn (q .answer) (ranFor k q .answer)) (ranFor k q) (ranFor m (ranFor k q)) → Goal t
     go true e later = rw e
     go false e later =
         let s = lines-told (r .answer .int) (r .answer .drq) (q .answer .int) (q .answer .drq) e in
@@ -96,48 +96,48 @@ split-at (suc k) m r =
 
 -- the rest as a run of its own
 rest-is : (m made : ℕ) (a b : List ℕ) (c : Controller)
-    → runOf m (ranOf (answerOf Done c) made a b)
-    ≡ thenRan (ranOf (answerOf Done c) made a b) (runOf m (startOf a b c))
+    → ranFor m (ranWith (answerOf Done c) made a b)
+    ≡ thenRan (ranWith (answerOf Done c) made a b) (ranFor m (noTickMade a b c))
 rest-is m made a b c =
-    let calls = ticksFrom m a b c in
+    let calls = tickCalls m a b c in
     let e : made + (0 + length calls) ≡ made + length calls = omega arith in
     run-is m made Done a b c
-    ∙ ap (λ (n : ℕ). ranOf (lastOf (answerOf Done c) calls c) n (imageLeft 0 a calls c) (imageLeft 1 b calls c)) (sym e)
-    ∙ sym (ap (thenRan (ranOf (answerOf Done c) made a b)) (run-is m 0 Done a b c))
+    ∙ ap (λ (n : ℕ). ranWith (lastOf (answerOf Done c) calls c) n (imageLeft 0 a calls c) (imageLeft 1 b calls c)) (sym e)
+    ∙ sym (ap (thenRan (ranWith (answerOf Done c) made a b)) (run-is m 0 Done a b c))
 
-goes-on : (m : ℕ) (r : Ran) → Going (r .answer) → runOf m r ≡ goesOn m r
-unfolding ticksOf
+goes-on : (m : ℕ) (r : Ran) → Going (r .answer) → ranFor m r ≡ thenTicks m r
+unfolding manyTicks
 goes-on m r g =
     rw (g .valid)
     (subst
-    (λ (answer : Answer). runOf m (ranOf answer (r .made) (r .first) (r .second))
-    ≡ thenRan (ranOf answer (r .made) (r .first) (r .second))
-    (runOf m (startOf (r .first) (r .second) (r .answer .controller))))
+    (λ (answer : Answer). ranFor m (ranWith answer (r .made) (r .first) (r .second))
+    ≡ thenRan (ranWith answer (r .made) (r .first) (r .second))
+    (ranFor m (noTickMade (r .first) (r .second) (r .answer .controller))))
     (sym (g .is)) (rest-is m (r .made) (r .first) (r .second) (r .answer .controller)))
 
 pub ticks-split : TicksSplit
-unfolding ticksOf answerOf
+unfolding manyTicks answerOf
 ticks-split k m a b c = go (validOf c) refl
   where
     whole : ℕ → Bool → Ran
-    whole n t = cond t (runOf n (startOf a b c)) (refusedOf a b c)
+    whole n t = cond t (ranFor n (noTickMade a b c)) (refusedOf a b c)
 
-    going : validOf c ≡ true → Going (runOf k (startOf a b c) .answer)
-    going v = run-going k (startOf a b c) (record { valid = v; is = refl })
+    going : validOf c ≡ true → Going (ranFor k (noTickMade a b c) .answer)
+    going v = run-going k (noTickMade a b c) (record { valid = v; is = refl })
 
     go : (t : Bool) → validOf c ≡ t
-        → whole (k + m) t ≡ cond (stopped c (whole k t .answer)) (whole k t) (goesOn m (whole k t))
+        → whole (k + m) t ≡ cond (stopped c (whole k t .answer)) (whole k t) (thenTicks m (whole k t))
     go true v =
         subst
-        (λ (r : Ran). runOf (k + m) (startOf a b c)
-        ≡ cond (stopped c (runOf k (startOf a b c) .answer)) (runOf k (startOf a b c)) r)
-        (goes-on m (runOf k (startOf a b c)) (going v)) (split-at k m (startOf a b c))
+        (λ (r : Ran). ranFor (k + m) (noTickMade a b c)
+        ≡ cond (stopped c (ranFor k (noTickMade a b c) .answer)) (ranFor k (noTickMade a b c)) r)
+        (goes-on m (ranFor k (noTickMade a b c)) (going v)) (split-at k m (noTickMade a b c))
     go false v = rw (same-lines (intOf c) (drqOf c), v)
 
 -- 01 Calls: a call makes one store, and both images are as it leaves them, or none
 data OneStore (call : Call) (c : Controller) : Type 0 where
   none : storeBy call c ≡ [] → ((k : ℕ) (img : List ℕ) → imageBy k img call c ≡ img) → OneStore call c
-  one : (s : Stored) → storeBy call c ≡ s ∷ []
+  one : (s : StoreMade) → storeBy call c ≡ s ∷ []
       → ((k : ℕ) (img : List ℕ) → imageBy k img call c ≡ storedAs (s .drive) k (Store (s .place) (s .byte)) img)
       → OneStore call c
 
@@ -165,14 +165,14 @@ one-store (notes drive) c = none refl (λ k img. refl)
 
 -- all the stores of calls lead to the images that they leave
 all-put : (calls : List Call) (c : Controller) (k : ℕ) (img : List ℕ)
-    → putAll k (storesOf calls c) img ≡ imageLeft k img calls c
-unfolding putAll storesOf imageLeft
+    → putAll k (storesMade calls c) img ≡ imageLeft k img calls c
+unfolding putAll storesMade imageLeft
 all-put [] c k img = refl
 all-put (call ∷ calls) c k img = go (one-store call c) (λ img'. all-put calls (after call c) k img')
   where
     go : OneStore call c
-        → ((img' : List ℕ) → putAll k (storesOf calls (after call c)) img' ≡ imageLeft k img' calls (after call c))
-        → putAll k (storeBy call c ++ storesOf calls (after call c)) img
+        → ((img' : List ℕ) → putAll k (storesMade calls (after call c)) img' ≡ imageLeft k img' calls (after call c))
+        → putAll k (storeBy call c ++ storesMade calls (after call c)) img
         ≡ imageLeft k (imageBy k img call c) calls (after call c)
     go (none e same) later = rw (e, same k img) (later img)
     go (one s e image) later = rw (e, image k img) (later _)
@@ -181,17 +181,17 @@ all-put (call ∷ calls) c k img = go (one-store call c) (λ img'. all-put calls
 record Begun (calls : List Call) (c : Controller) (a b : List ℕ) (i : ℕ) : Type 0 where
   count : ℕ
   within : count ≤ length calls
-  first : putAll 0 (take i (storesOf calls c)) a ≡ imageLeft 0 a (take count calls) c
-  second : putAll 1 (take i (storesOf calls c)) b ≡ imageLeft 1 b (take count calls) c
+  first : putAll 0 (take i (storesMade calls c)) a ≡ imageLeft 0 a (take count calls) c
+  second : putAll 1 (take i (storesMade calls c)) b ≡ imageLeft 1 b (take count calls) c
 
 begun : (calls : List Call) (c : Controller) (a b : List ℕ) (i : ℕ) → Begun calls c a b i
-unfolding putAll storesOf imageLeft
+unfolding putAll storesMade imageLeft
 begun [] c a b i =
     record {
       count = 0;
       within = omega arith;
-      first = ap (λ (l : List Stored). putAll 0 l a) (take-nil i);
-      second = ap (λ (l : List Stored). putAll 1 l b) (take-nil i);
+      first = ap (λ (l : List StoreMade). putAll 0 l a) (take-nil i);
+      second = ap (λ (l : List StoreMade). putAll 1 l b) (take-nil i);
     }
 begun (call ∷ calls) c a b i = go i (one-store call c) (λ a' b' i'. begun calls (after call c) a' b' i')
   where
@@ -220,9 +220,9 @@ begun (call ∷ calls) c a b i = go i (one-store call c) (λ a' b' i'. begun cal
         }
 
 -- the first j ticks of a run are a run of j
-from-short : (n j : ℕ) (a b : List ℕ) (c : Controller) → j ≤ length (ticksFrom n a b c)
-    → take j (ticksFrom n a b c) ≡ ticksFrom j a b c
-unfolding ticksFrom
+from-short : (n j : ℕ) (a b : List ℕ) (c : Controller) → j ≤ length (tickCalls n a b c)
+    → take j (tickCalls n a b c) ≡ tickCalls j a b c
+unfolding tickCalls
 from-short n zero a b c h = refl
 from-short zero (suc j) a b c h = absurd (omega arith)
 from-short (suc n) (suc j) a b c h =
@@ -230,7 +230,7 @@ from-short (suc n) (suc j) a b c h =
     (from-short n j (imageAfter 0 a b c a) (imageAfter 1 a b c b) (after (one-tick a b) c))
   where
     rest : ℕ → List Call
-    rest m = ticksFrom m (imageAfter 0 a b c a) (imageAfter 1 a b c b) (after (one-tick a b) c)
+    rest m = tickCalls m (imageAfter 0 a b c a) (imageAfter 1 a b c b) (after (one-tick a b) c)
 
     go : (t : Bool) → suc j ≤ length (one-tick a b ∷ cond t [] (rest n))
         → (j ≤ length (rest n) → take j (rest n) ≡ rest j)
@@ -243,21 +243,21 @@ pub made-short : (n j : ℕ) (a b : List ℕ) (c : Controller) → j ≤ length 
 unfolding ticksMade
 made-short n j a b c h = go (validOf c) h
   where
-    go : (t : Bool) → j ≤ length (cond t (ticksFrom n a b c) [])
-        → take j (cond t (ticksFrom n a b c) []) ≡ cond t (ticksFrom j a b c) []
+    go : (t : Bool) → j ≤ length (cond t (tickCalls n a b c) [])
+        → take j (cond t (tickCalls n a b c) []) ≡ cond t (tickCalls j a b c) []
     go true l = from-short n j a b c l
     go false l = take-nil j
 
 -- no more than asked for
-from-most : (n : ℕ) (a b : List ℕ) (c : Controller) → length (ticksFrom n a b c) ≤ n
-unfolding ticksFrom
+from-most : (n : ℕ) (a b : List ℕ) (c : Controller) → length (tickCalls n a b c) ≤ n
+unfolding tickCalls
 from-most zero a b c = omega arith
 from-most (suc n) a b c =
     go (changed (intOf c) (drqOf c) (answerTo (one-tick a b) c .int) (answerTo (one-tick a b) c .drq))
     (from-most n (imageAfter 0 a b c a) (imageAfter 1 a b c b) (after (one-tick a b) c))
   where
     rest : List Call
-    rest = ticksFrom n (imageAfter 0 a b c a) (imageAfter 1 a b c b) (after (one-tick a b) c)
+    rest = tickCalls n (imageAfter 0 a b c a) (imageAfter 1 a b c b) (after (one-tick a b) c)
 
     go : (t : Bool) → length rest ≤ n → length (one-tick a b ∷ cond t [] rest) ≤ suc n
     go true later = omega arith
@@ -267,7 +267,7 @@ pub made-most : (n : ℕ) (a b : List ℕ) (c : Controller) → length (ticksMad
 unfolding ticksMade
 made-most n a b c = go (validOf c)
   where
-    go : (t : Bool) → length (cond t (ticksFrom n a b c) []) ≤ n
+    go : (t : Bool) → length (cond t (tickCalls n a b c) []) ≤ n
     go true = from-most n a b c
     go false = omega arith
 
@@ -290,12 +290,12 @@ stores-in-order n a b c = record { all = all; each = each }
     all = images-of n a b c _ _ (all-put calls c 0 a) (all-put calls c 1 b)
 
     each : (i : ℕ)
-        → (j : ℕ) × ((j ≤ ticksOf n a b c .made)
+        → (j : ℕ) × ((j ≤ manyTicks n a b c .made)
         × ImagesOf j a b c (putAll 0 (take i (storesIn n a b c)) a) (putAll 1 (take i (storesIn n a b c)) b))
     each i =
         let s = begun calls c a b i in
         let short = made-short n (s .count) a b c (s .within) in
-        let made : ticksOf n a b c .made ≡ length calls = ap (λ (r : Ran). r .made) (ticks-are n a b c) in (
+        let made : manyTicks n a b c .made ≡ length calls = ap (λ (r : Ran). r .made) (ticks-are n a b c) in (
           s .count,
           (
             omega (arith, s .within, made),

@@ -18,47 +18,47 @@ use Rattle.fdc.specs.Ticks.{tickReply}
 use Rattle.demands.specs.Work.{imageLeft}
 use Rattle.answers.specs.Refusals.{keptBy}
 use Rattle.answers.proofs.RefusalLaws.{refused-exactly}
-use Rattle.pack.specs.Back.{Holds, Typed}
+use Rattle.pack.specs.Back.{HoldsRecord, Typed}
 use Rattle.pack.specs.Bytes.{recordSize, storedOf, fifoStored}
 use Rattle.pack.proofs.BackLaws.{holds}
 use Rattle.pack.proofs.CycleLaws.{holds-fifo, read-keeps, write-keeps}
 use Rattle.pack.proofs.PutLaws.{record-long}
-use Rattle.many_ticks.specs.Run.{Ran, ticksOf}
-use Rattle.capi.specs.Calls.{setIn, writtenOf, wordFrom, bytesFrom, cycledOf, cycleFrom, powerWord}
+use Rattle.many_ticks.specs.Run.{Ran, manyTicks}
+use Rattle.capi.specs.Calls.{setIn, writtenBack, wordBack, bytesFrom, cycledOf, cycleFrom, powerWord}
 use Rattle.capi.specs.Calls.{imageFrom, longFrom, firstFrom, secondFrom}
 use Rattle.capi.specs.Word.{wordOf, longOf}
 use Rattle.firmware.specs.Calls.{World, BelCall, power-on, read-port, write-port, dma-read, dma-write, tick}
 use Rattle.firmware.specs.Calls.{note-change, ticks, lends, wordTo, bytesAfter, firstAfter, secondAfter}
 use Rattle.firmware.specs.Calls.{worldAfter, worldLeft}
 use Rattle.firmware.specs.Made.{Box, ticksMade, callsIn, boxBy, lent, boxAfter, boxLeft, callsMade, wordBy}
-use Rattle.firmware.specs.Lists.{Shows, OverLists}
+use Rattle.firmware.specs.Lists.{ShowsBox, OverLists}
 use Rattle.firmware.proofs.RanLaws.{ticks-are, last-record, ticks-refused}
 use Rattle.firmware.proofs.TypedLaws.{typed-after, typed-run, typed-power-on}
 
 -- what a store leaves
-pub holds-stored : (c : Controller) (l : List ℕ) → recordSize ≤ length l → Typed c → Holds (storedOf c l) c
+pub holds-stored : (c : Controller) (l : List ℕ) → recordSize ≤ length l → Typed c → HoldsRecord (storedOf c l) c
 unfolding storedOf
 holds-stored c l h t = rw (le-leb recordSize (length l) h) (holds c (drop recordSize l) t)
 
-module _ (l : List ℕ) (c : Controller) (h : Holds l c) where
+module _ (l : List ℕ) (c : Controller) (h : HoldsRecord l c) where
   -- after an answer that, where it refuses, has the record as it was
   holds-written : (answer : Answer) → Typed (answer .controller)
-      → ((numberIn (answer .reply) ≡ 0 → ⊥) → answer .controller ≡ c) → Holds (bytesFrom l answer) (answer .controller)
-  unfolding bytesFrom writtenOf
+      → ((numberIn (answer .reply) ≡ 0 → ⊥) → answer .controller ≡ c) → HoldsRecord (bytesFrom l answer) (answer .controller)
+  unfolding bytesFrom writtenBack
   holds-written answer t kept =
       rw (h .good)
-      (by-test (eqb (numberIn (answer .reply)) 0) (λ (m : List ℕ). Holds m (answer .controller)) _ _
+      (by-test (eqb (numberIn (answer .reply)) 0) (λ (m : List ℕ). HoldsRecord m (answer .controller)) _ _
       (λ e. holds-stored (answer .controller) l (record-long l (h .good)) t)
       (λ e. rw (kept (eqb-false _ _ e)) h))
 
   -- and after a DMA cycle, which writes the FIFO alone
   holds-cycled : (answer : Answer) → Typed (answer .controller)
       → withFifo (answer .controller .fifo) c ≡ answer .controller
-      → ((numberIn (answer .reply) ≡ 0 → ⊥) → answer .controller ≡ c) → Holds (cycleFrom l answer) (answer .controller)
+      → ((numberIn (answer .reply) ≡ 0 → ⊥) → answer .controller ≡ c) → HoldsRecord (cycleFrom l answer) (answer .controller)
   unfolding cycleFrom cycledOf fifoStored
   holds-cycled answer t only kept =
       rw (h .good)
-      (by-test (eqb (numberIn (answer .reply)) 0) (λ (m : List ℕ). Holds m (answer .controller)) _ _
+      (by-test (eqb (numberIn (answer .reply)) 0) (λ (m : List ℕ). HoldsRecord m (answer .controller)) _ _
       (λ e. rw (le-leb recordSize (length l) (record-long l (h .good)))
       (rw (h .back, only) at (holds-fifo (answer .controller .fifo) l (t .fifo) (h .good))))
       (λ e. rw (kept (eqb-false _ _ e)) h))
@@ -83,40 +83,40 @@ lent-record (lends a b) x = refl
 abbrev lent-as : List ℕ → Box → World
 lent-as l x = record { bytes = l; first = x .first; second = x .second }
 
-module _ (l : List ℕ) (x : Box) (h : Holds l (x .controller)) (t : Typed (x .controller)) where
+module _ (l : List ℕ) (x : Box) (h : HoldsRecord l (x .controller)) (t : Typed (x .controller)) where
   long : recordSize ≤ length l
   long = record-long l (h .good)
 
   -- a call whose refusal keeps the record
   plain : (call : Call) → keptBy call (x .controller) ≡ x .controller
-      → Holds (bytesFrom l (answerTo call (x .controller))) (after call (x .controller))
+      → HoldsRecord (bytesFrom l (answerTo call (x .controller))) (after call (x .controller))
   plain call e =
       holds-written l (x .controller) h (answerTo call (x .controller)) (typed-after call (x .controller) t)
       (refused-kept call (x .controller) e)
 
   cycle : (call : Call) → keptBy call (x .controller) ≡ x .controller
       → withFifo (after call (x .controller) .fifo) (x .controller) ≡ after call (x .controller)
-      → Holds (cycleFrom l (answerTo call (x .controller))) (after call (x .controller))
+      → HoldsRecord (cycleFrom l (answerTo call (x .controller))) (after call (x .controller))
   cycle call e only =
       holds-cycled l (x .controller) h (answerTo call (x .controller)) (typed-after call (x .controller) t) only
       (refused-kept call (x .controller) e)
 
   many : (n : ℕ)
-      → Holds (bytesFrom l (ticksOf n (x .first) (x .second) (x .controller) .answer))
+      → HoldsRecord (bytesFrom l (manyTicks n (x .first) (x .second) (x .controller) .answer))
       (runCalls (ticksMade n (x .first) (x .second) (x .controller)) (x .controller))
   unfolding answerOf
   many n =
-      let r = ticksOf n (x .first) (x .second) (x .controller) in
+      let r = manyTicks n (x .first) (x .second) (x .controller) in
       let calls = ticksMade n (x .first) (x .second) (x .controller) in
       let e : r .answer .controller ≡ runCalls calls (x .controller) =
       ap (λ (q : Ran). q .answer .controller) (ticks-are n (x .first) (x .second) (x .controller))
       ∙ last-record calls (answerOf (tickReply (x .controller)) (x .controller)) (x .controller) refl in
-      subst (Holds (bytesFrom l (r .answer))) e
+      subst (HoldsRecord (bytesFrom l (r .answer))) e
       (holds-written l (x .controller) h (r .answer) (subst Typed (sym e) (typed-run calls (x .controller) t))
       (λ refused. ap (λ (q : Ran). q .answer .controller)
       (ticks-refused n (x .first) (x .second) (x .controller) refused)))
 
-  bytes-hold : (call : BelCall) → Holds (bytesAfter call (lent-as l x)) (boxAfter call x .controller)
+  bytes-hold : (call : BelCall) → HoldsRecord (bytesAfter call (lent-as l x)) (boxAfter call x .controller)
   unfolding bytesAfter callsIn runCalls answerTo
   bytes-hold (power-on head0 head1) = holds-stored _ l long (typed-power-on head0 head1)
   bytes-hold (read-port offset) = rw (h .back) (plain (reads offset) refl)
@@ -156,7 +156,7 @@ module _ (l : List ℕ) (x : Box) (h : Holds l (x .controller)) (t : Typed (x .c
   second-is (lends a b) = refl
 
   word-is : (call : BelCall) → wordTo call (lent-as l x) ≡ wordBy call x
-  unfolding wordTo wordBy answerTo powerWord wordFrom longFrom callsIn
+  unfolding wordTo wordBy answerTo powerWord wordBack longFrom callsIn
   word-is (power-on head0 head1) = rw (le-leb recordSize (length l) long)
   word-is (read-port offset) = rw (h .good, h .back)
   word-is (write-port offset byte) = rw (h .good, h .back)
@@ -170,13 +170,13 @@ module _ (l : List ℕ) (x : Box) (h : Holds l (x .controller)) (t : Typed (x .c
   word-is (lends a b) = refl
 
 -- what is lent, by its bytes and the box
-same-world : (w : World) (x : Box) → Shows w x → w ≡ lent-as (w .bytes) x
+same-world : (w : World) (x : Box) → ShowsBox w x → w ≡ lent-as (w .bytes) x
 same-world w x s = rw (← s .first, ← s .second)
 
 abbrev Stepped : BelCall → Box → World → Type 0
-Stepped call x w = Shows (worldAfter call w) (boxAfter call x) × (wordTo call w ≡ wordBy call x)
+Stepped call x w = ShowsBox (worldAfter call w) (boxAfter call x) × (wordTo call w ≡ wordBy call x)
 
-one-call : (w : World) (x : Box) → Shows w x → Typed (x .controller) → (call : BelCall) → Stepped call x w
+one-call : (w : World) (x : Box) → ShowsBox w x → Typed (x .controller) → (call : BelCall) → Stepped call x w
 one-call w x s t call =
     subst (Stepped call x) (sym (same-world w x s)) (
       record {

@@ -19,21 +19,21 @@ use Rattle.reached.specs.Runs.{Call, answerTo, after, runCalls}
 use Rattle.reached.specs.Runs.{ticks as one-tick}
 use Rattle.fdc.specs.Ticks.{tickReply, tickOf, ruledOf, imageAfter}
 use Rattle.demands.specs.Work.{imageLeft}
-use Rattle.many_ticks.specs.Run.{Ran, ranOf, ticked, changed, changedIn, runOf, startOf, refusedOf, ticksOf}
-use Rattle.firmware.specs.Made.{ticksFrom, ticksMade, lastOf}
+use Rattle.many_ticks.specs.Run.{Ran, ranWith, ranOn, changed, changedIn, ranFor, noTickMade, refusedOf, manyTicks}
+use Rattle.firmware.specs.Made.{tickCalls, ticksMade, lastOf}
 use Rattle.firmware.proofs.TypedLaws.{valid-ticked}
 
 -- what some calls answer last, how many they are, and what they leave
 abbrev pub ranBy : Answer → ℕ → List Call → List ℕ → List ℕ → Controller → Ran
 ranBy answer made calls a b c =
-    ranOf (lastOf answer calls c) (made + length calls) (imageLeft 0 a calls c) (imageLeft 1 b calls c)
+    ranWith (lastOf answer calls c) (made + length calls) (imageLeft 0 a calls c) (imageLeft 1 b calls c)
 
 pub run-is : (n made : ℕ) (reply : Reply) (a b : List ℕ) (c : Controller)
-    → runOf n (ranOf (answerOf reply c) made a b) ≡ ranBy (answerOf reply c) made (ticksFrom n a b c) a b c
-unfolding runOf ticked ticksFrom lastOf imageLeft answerTo tickOf answerOf
+    → ranFor n (ranWith (answerOf reply c) made a b) ≡ ranBy (answerOf reply c) made (tickCalls n a b c) a b c
+unfolding ranFor ranOn tickCalls lastOf imageLeft answerTo tickOf answerOf
 run-is zero made reply a b c =
     let e : made ≡ made + 0 = omega arith in
-    ap (λ (m : ℕ). ranOf (answerOf reply c) m a b) e
+    ap (λ (m : ℕ). ranWith (answerOf reply c) m a b) e
 run-is (suc n) made reply a b c =
     go (changed (intOf c) (drqOf c) (next .int) (next .drq))
     (run-is n (made + 1) (tickReply c) first second (ruledOf a b c .controller))
@@ -48,38 +48,38 @@ run-is (suc n) made reply a b c =
     second = imageAfter 1 a b c b
 
     rest : List Call
-    rest = ticksFrom n first second (next .controller)
+    rest = tickCalls n first second (next .controller)
 
     more : made + 1 + length rest ≡ made + suc (length rest)
     more = omega arith
 
     go : (t : Bool)
-        → runOf n (ranOf next (made + 1) first second) ≡ ranBy next (made + 1) rest first second (next .controller)
-        → cond t (ranOf next (made + 1) first second) (runOf n (ranOf next (made + 1) first second))
+        → ranFor n (ranWith next (made + 1) first second) ≡ ranBy next (made + 1) rest first second (next .controller)
+        → cond t (ranWith next (made + 1) first second) (ranFor n (ranWith next (made + 1) first second))
         ≡ ranBy (answerOf reply c) made (one-tick a b ∷ cond t [] rest) a b c
     go true later = refl
     go false later =
         later
-        ∙ ap (λ (m : ℕ). ranOf (lastOf next rest (next .controller)) m
+        ∙ ap (λ (m : ℕ). ranWith (lastOf next rest (next .controller)) m
         (imageLeft 0 first rest (next .controller)) (imageLeft 1 second rest (next .controller))) more
 
 -- of a record, damaged or not
 pub ticks-are : (n : ℕ) (a b : List ℕ) (c : Controller)
-    → ticksOf n a b c
-    ≡ ranOf (lastOf (answerOf (tickReply c) c) (ticksMade n a b c) c) (length (ticksMade n a b c))
+    → manyTicks n a b c
+    ≡ ranWith (lastOf (answerOf (tickReply c) c) (ticksMade n a b c) c) (length (ticksMade n a b c))
     (imageLeft 0 a (ticksMade n a b c) c) (imageLeft 1 b (ticksMade n a b c) c)
-unfolding ticksOf ticksMade lastOf imageLeft
+unfolding manyTicks ticksMade lastOf imageLeft
 ticks-are n a b c = go (validOf c)
   where
-    none : 0 + length (ticksFrom n a b c) ≡ length (ticksFrom n a b c)
+    none : 0 + length (tickCalls n a b c) ≡ length (tickCalls n a b c)
     none = omega arith
 
     calls : Bool → List Call
-    calls t = cond t (ticksFrom n a b c) []
+    calls t = cond t (tickCalls n a b c) []
 
     go : (t : Bool)
-        → cond t (runOf n (startOf a b c)) (refusedOf a b c)
-        ≡ ranOf (lastOf (answerOf (cond t Done (Refused Damaged)) c) (calls t) c) (length (calls t))
+        → cond t (ranFor n (noTickMade a b c)) (refusedOf a b c)
+        ≡ ranWith (lastOf (answerOf (cond t Done (Refused Damaged)) c) (calls t) c) (length (calls t))
         (imageLeft 0 a (calls t) c) (imageLeft 1 b (calls t) c)
     go true = rw none at (run-is n 0 Done a b c)
     go false = refl
@@ -97,22 +97,22 @@ unfolding tickOf answerOf
 tick-done a b c v = rw v
 
 run-done : (n : ℕ) (r : Ran) → validOf (r .answer .controller) ≡ true → numberIn (r .answer .reply) ≡ 0
-    → numberIn (runOf n r .answer .reply) ≡ 0
-unfolding runOf ticked
+    → numberIn (ranFor n r .answer .reply) ≡ 0
+unfolding ranFor ranOn
 run-done zero r v d = d
 run-done (suc n) r v d =
-    by-test (changedIn (r .answer) (ticked r .answer)) (λ (q : Ran). numberIn (q .answer .reply) ≡ 0) (ticked r)
-    (runOf n (ticked r)) (λ _. tick-done (r .first) (r .second) (r .answer .controller) v)
-    (λ _. run-done n (ticked r) (valid-ticked (r .first) (r .second) (r .answer .controller) v)
+    by-test (changedIn (r .answer) (ranOn r .answer)) (λ (q : Ran). numberIn (q .answer .reply) ≡ 0) (ranOn r)
+    (ranFor n (ranOn r)) (λ _. tick-done (r .first) (r .second) (r .answer .controller) v)
+    (λ _. run-done n (ranOn r) (valid-ticked (r .first) (r .second) (r .answer .controller) v)
     (tick-done (r .first) (r .second) (r .answer .controller) v))
 
-pub ticks-refused : (n : ℕ) (a b : List ℕ) (c : Controller) → (numberIn (ticksOf n a b c .answer .reply) ≡ 0 → ⊥)
-    → ticksOf n a b c ≡ refusedOf a b c
-unfolding ticksOf answerOf
+pub ticks-refused : (n : ℕ) (a b : List ℕ) (c : Controller) → (numberIn (manyTicks n a b c .answer .reply) ≡ 0 → ⊥)
+    → manyTicks n a b c ≡ refusedOf a b c
+unfolding manyTicks answerOf
 ticks-refused n a b c refused = go (validOf c) refl
   where
-    go : (t : Bool) → validOf c ≡ t → cond t (runOf n (startOf a b c)) (refusedOf a b c) ≡ refusedOf a b c
-    go true v = absurd (refused (rw v (run-done n (startOf a b c) v refl)))
+    go : (t : Bool) → validOf c ≡ t → cond t (ranFor n (noTickMade a b c)) (refusedOf a b c) ≡ refusedOf a b c
+    go true v = absurd (refused (rw v (run-done n (noTickMade a b c) v refl)))
     go false v = refl
 
 -- and none reads a value
@@ -120,16 +120,16 @@ tick-nothing : (a b : List ℕ) (c : Controller) → valueOf (tickOf a b c .repl
 unfolding tickOf answerOf
 tick-nothing a b c = by-test (validOf c) (λ (r : Reply). valueOf r ≡ 0) _ _ (λ _. refl) (λ _. refl)
 
-run-nothing : (n : ℕ) (r : Ran) → valueOf (r .answer .reply) ≡ 0 → valueOf (runOf n r .answer .reply) ≡ 0
-unfolding runOf ticked
+run-nothing : (n : ℕ) (r : Ran) → valueOf (r .answer .reply) ≡ 0 → valueOf (ranFor n r .answer .reply) ≡ 0
+unfolding ranFor ranOn
 run-nothing zero r e = e
 run-nothing (suc n) r e =
-    by-test (changedIn (r .answer) (ticked r .answer)) (λ (q : Ran). valueOf (q .answer .reply) ≡ 0) (ticked r)
-    (runOf n (ticked r)) (λ _. tick-nothing (r .first) (r .second) (r .answer .controller))
-    (λ _. run-nothing n (ticked r) (tick-nothing (r .first) (r .second) (r .answer .controller)))
+    by-test (changedIn (r .answer) (ranOn r .answer)) (λ (q : Ran). valueOf (q .answer .reply) ≡ 0) (ranOn r)
+    (ranFor n (ranOn r)) (λ _. tick-nothing (r .first) (r .second) (r .answer .controller))
+    (λ _. run-nothing n (ranOn r) (tick-nothing (r .first) (r .second) (r .answer .controller)))
 
-pub ticks-nothing : (n : ℕ) (a b : List ℕ) (c : Controller) → valueOf (ticksOf n a b c .answer .reply) ≡ 0
-unfolding ticksOf answerOf
+pub ticks-nothing : (n : ℕ) (a b : List ℕ) (c : Controller) → valueOf (manyTicks n a b c .answer .reply) ≡ 0
+unfolding manyTicks answerOf
 ticks-nothing n a b c =
-    by-test (validOf c) (λ (q : Ran). valueOf (q .answer .reply) ≡ 0) _ _ (λ _. run-nothing n (startOf a b c) refl)
+    by-test (validOf c) (λ (q : Ran). valueOf (q .answer .reply) ≡ 0) _ _ (λ _. run-nothing n (noTickMade a b c) refl)
     (λ _. refl)

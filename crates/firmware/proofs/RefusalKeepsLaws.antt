@@ -31,11 +31,11 @@ use Rattle.reached.specs.Runs.{ticks as one-tick}
 use Rattle.demands.specs.Quiet.{AllBytes}
 use Rattle.answers.specs.Refusals.{Row, Given, numberTo, ReadsNothing}
 use Rattle.answers.proofs.RefusalLaws.{refused-exactly}
-use Rattle.pack.specs.Back.{Holds}
+use Rattle.pack.specs.Back.{HoldsRecord}
 use Rattle.pack.specs.Bytes.{recordSize, recordIn, isRecord, storedOf}
 use Rattle.pack.specs.Places.{registersRow, fifoRow, resultRow, dorAt}
-use Rattle.many_ticks.specs.Run.{Ran, refusedOf, ticksOf}
-use Rattle.capi.specs.Calls.{setIn, wordFrom, powerWord, imageFrom, longFrom, firstFrom, secondFrom}
+use Rattle.many_ticks.specs.Run.{Ran, refusedOf, manyTicks}
+use Rattle.capi.specs.Calls.{setIn, wordBack, powerWord, imageFrom, longFrom, firstFrom, secondFrom}
 use Rattle.capi.specs.Word.{noRecord, wordOf, longOf}
 use Rattle.capi.proofs.KeepLaws.{refusal-keeps-bytes}
 use Rattle.capi.proofs.WordLaws.{word-apart}
@@ -194,10 +194,10 @@ module _ (w : World) (all : AllBytes (w .bytes)) (good : isRecord (w .bytes) ≡
   take-fits tc = take-small c (is-byte (registersRow + dorAt)) (is-byte fifoRow) (is-byte resultRow) tc
 
   -- a call of the record alone
-  plain : (call : BelCall) (own : Call) → wordTo call w ≡ wordFrom (w .bytes) (answerTo own c) → NoPower own
+  plain : (call : BelCall) (own : Call) → wordTo call w ≡ wordBack (w .bytes) (answerTo own c) → NoPower own
       → valueOf (answerTo own c .reply) < 0x100
       → ((numberTo own c ≡ 0 → ⊥) → worldAfter call w ≡ w) → Keeps call
-  unfolding wordFrom
+  unfolding wordBack
   plain call own e n v kept refused =
       left-by w (worldAfter call w) (wordTo call w) (answerTo own c) v (ap refusalIn (e ∙ rw good)) refused
       (not-five own c n) kept
@@ -208,7 +208,7 @@ module _ (w : World) (all : AllBytes (w .bytes)) (good : isRecord (w .bytes) ≡
   many n refused =
       let a : List ℕ = w .first in
       let b : List ℕ = w .second in
-      let r : Ran = ticksOf n a b c in
+      let r : Ran = manyTicks n a b c in
       let word : wordTo (ticks n) w ≡ longOf (wordOf (r .answer)) (r .made) = rw good in
       let is : (numberIn (r .answer .reply) ≡ 0 → ⊥) → r ≡ refusedOf a b c = ticks-refused n a b c in
       left-by w (worldAfter (ticks n) w) (wordTo (ticks n) w) (r .answer) (omega (arith, ticks-nothing n a b c))
@@ -280,7 +280,7 @@ powered w long head0 head1 refused = go (power-answer head0 head1)
     go (inl z) = absurd (refused (number ∙ z))
     go (inr q) = (
       λ five. (
-        subst (λ (c : Controller). Holds (storedOf c (w .bytes)) (freshOf 0 0)) (sym (q .1))
+        subst (λ (c : Controller). HoldsRecord (storedOf c (w .bytes)) (freshOf 0 0)) (sym (q .1))
             (holds-stored (freshOf 0 0) (w .bytes) long (typed-fresh 0 0)),
         (refl, refl),
       ),

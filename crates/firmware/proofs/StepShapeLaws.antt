@@ -49,10 +49,10 @@ use Rattle.sectors.specs.Search.{matches, secondPass, notFound, missedOf, readF
 use Rattle.sectors.specs.Search.{searchOf}
 use Rattle.sectors.specs.Track.{hasTrack, staysOf, sectorBytes}
 use Rattle.sectors.specs.Write.{underrun, awaitOf, putOf, dryOf, writtenOf, storeOf}
-use Rattle.engine.specs.First.{changes, misplanned, gateOf, movingOf, startOf, enteredOf, beginOf}
+use Rattle.engine.specs.First.{changes, misplanned, gateOf, movingOf, startJob, enteredOf, beginOf}
 use Rattle.engine.specs.Format.{formatEnd, formAwait, addressPut, addressOf, clearOn, formedOf, fillOf, clearOf, formOf}
 use Rattle.engine.specs.ReadId.{noIdOf, noIdHere, idHere, identifiedOf, identifyOf}
-use Rattle.engine.specs.Step.{siteOf, lostOf, stageOf, workOf, goOnOf}
+use Rattle.engine.specs.Step.{siteOf, lostOf, stageOf, workStep, goOnOf}
 use Rattle.pack.specs.Flat.{workFlat}
 
 -- the array keeps its sixteen, and a count within its capacity stays so
@@ -298,8 +298,8 @@ module _ (efifo : Bool) (f : Fifo) where
         })
     form-fine (Clearing slot) fifothr = clear-on-fine slot _
 
-  work-fine : (work : Work) (head : ℕ) (img : List ℕ) (fifothr : ℕ) → Ok (workOf work head img f efifo fifothr)
-  unfolding workOf identifyOf
+  work-fine : (work : Work) (head : ℕ) (img : List ℕ) (fifothr : ℕ) → Ok (workStep work head img f efifo fifothr)
+  unfolding workStep identifyOf
   work-fine (Identifying site slot passes) head img fifothr = identified-fine _ _ slot passes site
   work-fine (Moving site task stage) head img fifothr = stage-fine stage site task head img fifothr
   work-fine (Formatting site plan form) head img fifothr = form-fine site plan head form fifothr
@@ -323,8 +323,8 @@ module _ (efifo : Bool) (f : Fifo) where
   moving-fine Read transfer id site = record { room = room-same efifo f; done = omega arith }
   moving-fine Write transfer id site = record { room = room-opened efifo f; done = omega arith }
 
-  start-fine : (job : Job) (site : Site) → Ok (startOf job site f)
-  unfolding startOf
+  start-fine : (job : Job) (site : Site) → Ok (startJob job site f)
+  unfolding startJob
   start-fine Identify site = record { room = room-same efifo f; done = omega arith }
   start-fine (Move transfer id) site = moving-fine (transfer .pass) transfer id site
   start-fine (Format plan) site = record { room = room-opened efifo f; done = omega arith }

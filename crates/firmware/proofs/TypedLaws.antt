@@ -14,9 +14,9 @@ use Rattle.chip.proofs.StepLaws.{step-most}
 use Rattle.drive.specs.declared.Drive.{Drive}
 use Rattle.drive.specs.declared.Motion.{Motion}
 use Rattle.drive.specs.declared.Motion.the-variants.{Still, Seeking, Recalibrating}
-use Rattle.drive.specs.Drive.{waitOf}
+use Rattle.drive.specs.Drive.{countdownOf}
 use Rattle.drive.specs.Step.{onTick, sought, recalibrated, stepped, seekTick, recalibrateTick, tickIn}
-use Rattle.drive.specs.Step.{tickOf as tickDrive}
+use Rattle.drive.specs.Step.{tickDrive}
 use Rattle.sectors.specs.declared.order.Job.{Job}
 use Rattle.sectors.specs.declared.order.Job.the-variants.{Identify, Move}
 use Rattle.sectors.specs.declared.order.Job.the-variants as job
@@ -72,7 +72,7 @@ fit-four : (a b c d : Drive) → Brief a → Brief b → Brief c → Brief d →
 fit-four a b c d wa wb wc wd = record { long = refl; wait0 = wa; wait1 = wb; wait2 = wc; wait3 = wd }
 
 -- what calls and ticks do to a drive
-brief-motion : (m : Motion) → waitOf m ≤ 1000 → courseOf m .wait < 0x10000
+brief-motion : (m : Motion) → countdownOf m ≤ 1000 → courseOf m .wait < 0x10000
 brief-motion Still h = omega arith
 brief-motion (Seeking target n wait) h = omega arith
 brief-motion (Recalibrating n wait) h = omega arith

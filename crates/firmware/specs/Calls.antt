@@ -6,8 +6,8 @@ use mathlib.Core.List.{List, [], _∷_}
 use Rattle.fdc.specs.Calls.{powerOn, readPort, writePort, dmaRead, dmaWrite, noteChange}
 use Rattle.fdc.specs.Ticks.{tickOf}
 use Rattle.pack.specs.Bytes.{recordIn}
-use Rattle.many_ticks.specs.Run.{ticksOf}
-use Rattle.capi.specs.Calls.{setIn, wordFrom, bytesFrom, cycleFrom, powerWord, powerBytes, imageFrom}
+use Rattle.many_ticks.specs.Run.{manyTicks}
+use Rattle.capi.specs.Calls.{setIn, wordBack, bytesFrom, cycleFrom, powerWord, powerBytes, imageFrom}
 use Rattle.capi.specs.Calls.{longFrom, firstFrom, secondFrom}
 
 -- the record's bytes, and the images of drives 0 and 1
@@ -31,12 +31,12 @@ pub data BelCall : Type 0 where
 -- the word that a call returns; 0 stands where nothing is called
 unfoldable pub wordTo : BelCall → World → ℕ
 wordTo (power-on head0 head1) w = powerWord (w .bytes) (powerOn head0 head1)
-wordTo (read-port offset) w = wordFrom (w .bytes) (readPort offset (recordIn (w .bytes)))
-wordTo (write-port offset byte) w = wordFrom (w .bytes) (writePort offset byte (recordIn (w .bytes)))
-wordTo (dma-read tc) w = wordFrom (w .bytes) (dmaRead (setIn tc) (recordIn (w .bytes)))
-wordTo (dma-write byte tc) w = wordFrom (w .bytes) (dmaWrite byte (setIn tc) (recordIn (w .bytes)))
-wordTo tick w = wordFrom (w .bytes) (tickOf (w .first) (w .second) (recordIn (w .bytes)))
-wordTo (note-change drive) w = wordFrom (w .bytes) (noteChange drive (recordIn (w .bytes)))
+wordTo (read-port offset) w = wordBack (w .bytes) (readPort offset (recordIn (w .bytes)))
+wordTo (write-port offset byte) w = wordBack (w .bytes) (writePort offset byte (recordIn (w .bytes)))
+wordTo (dma-read tc) w = wordBack (w .bytes) (dmaRead (setIn tc) (recordIn (w .bytes)))
+wordTo (dma-write byte tc) w = wordBack (w .bytes) (dmaWrite byte (setIn tc) (recordIn (w .bytes)))
+wordTo tick w = wordBack (w .bytes) (tickOf (w .first) (w .second) (recordIn (w .bytes)))
+wordTo (note-change drive) w = wordBack (w .bytes) (noteChange drive (recordIn (w .bytes)))
 wordTo (ticks n) w = longFrom n (w .bytes) (w .first) (w .second)
 wordTo (lends a b) w = 0
 
@@ -49,7 +49,7 @@ bytesAfter (dma-read tc) w = cycleFrom (w .bytes) (dmaRead (setIn tc) (recordIn 
 bytesAfter (dma-write byte tc) w = cycleFrom (w .bytes) (dmaWrite byte (setIn tc) (recordIn (w .bytes)))
 bytesAfter tick w = bytesFrom (w .bytes) (tickOf (w .first) (w .second) (recordIn (w .bytes)))
 bytesAfter (note-change drive) w = bytesFrom (w .bytes) (noteChange drive (recordIn (w .bytes)))
-bytesAfter (ticks n) w = bytesFrom (w .bytes) (ticksOf n (w .first) (w .second) (recordIn (w .bytes)) .answer)
+bytesAfter (ticks n) w = bytesFrom (w .bytes) (manyTicks n (w .first) (w .second) (recordIn (w .bytes)) .answer)
 bytesAfter (lends a b) w = w .bytes
 
 -- and the images: only the two that are lent them change them

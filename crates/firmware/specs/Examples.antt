@@ -19,7 +19,7 @@ use Rattle.pack.specs.Bytes.{recordSize}
 use Rattle.firmware.specs.Calls.{World, BelCall, power-on, write-port, dma-write, ticks, wordTo, worldLeft}
 use Rattle.firmware.specs.Made.{boxLeft, callsMade}
 use Rattle.firmware.specs.FromFirmware.{Stays, boxOf, Accepted, storesOn}
-use Rattle.firmware.specs.Inside.{Stored}
+use Rattle.firmware.specs.Inside.{StoreMade}
 
 -- bytes for a record and no more, a disk of two sectors in drive 0, none in drive 1
 abbrev pub blank : World
@@ -56,10 +56,10 @@ ordered = record { drive = 0; side = 0; job = Move written sectorOne }
 abbrev pub served : List BelCall
 served = ticks 9 ∷ dma-write 0xA5 0 ∷ []
 
-abbrev pub storeOf : ℕ → ℕ → Stored
-storeOf place byte = record { drive = 0; place = place; byte = byte }
+abbrev pub storeMade : ℕ → ℕ → StoreMade
+storeMade place byte = record { drive = 0; place = place; byte = byte }
 
-pub record Examples : Type 0 where
+pub record FirmwareExamples : Type 0 where
   pub accepted : Accepted begun writer ordered written sectorOne (disk 1 1 2 1)
   pub its : Its (callsMade (served ++ (ticks 100 ∷ [])) (boxOf writer begun)) writer
   pub stays : Stays 0 served (boxOf writer begun)
@@ -68,4 +68,4 @@ pub record Examples : Type 0 where
   pub first-word : wordTo (ticks 9) begun ≡ 0x100030000
   pub byte-word : wordTo (dma-write 0xA5 0) (worldLeft (ticks 9 ∷ []) begun) ≡ 0x10000
   pub last-word : wordTo (ticks 100) (worldLeft served begun) ≡ 0x300030000
-  pub stores : storesOn 100 (worldLeft served begun) ≡ storeOf 13 3 ∷ storeOf 18 0xA5 ∷ []
+  pub stores : storesOn 100 (worldLeft served begun) ≡ storeMade 13 3 ∷ storeMade 18 0xA5 ∷ []

@@ -13,31 +13,31 @@ use Rattle.image.specs.Lent.{pickOf}
 use Rattle.sectors.specs.declared.order.Order.{Order}
 use Rattle.sectors.specs.declared.order.Transfer.{Transfer}
 use Rattle.fdc.specs.declared.record.Controller.{Controller}
-use Rattle.demands.specs.History.{fresh, historyOf}
+use Rattle.demands.specs.History.{noHistory, historyOf}
 use Rattle.demands.specs.PowerCut.{Writes, LeftBy, headOf}
 use Rattle.demands.specs.Work.{Real, Its}
-use Rattle.pack.specs.Back.{Holds}
+use Rattle.pack.specs.Back.{HoldsRecord}
 use Rattle.pack.specs.Bytes.{recordSize, recordIn}
 use Rattle.firmware.specs.Calls.{World, BelCall, power-on, read-port, write-port, dma-read, dma-write, tick}
 use Rattle.firmware.specs.Calls.{note-change, ticks, lends, worldLeft}
-use Rattle.firmware.specs.Inside.{Stored, putAll, storesIn}
+use Rattle.firmware.specs.Inside.{StoreMade, putAll, storesIn}
 use Rattle.firmware.specs.Made.{Box, boxAfter, callsMade}
 
 -- the numbers of a call are bytes, as its parameters' types have it
-abbrev pub OfBytes : BelCall → Type 0
-OfBytes (power-on head0 head1) = (head0 < 256) × (head1 < 256)
-OfBytes (read-port offset) = offset < 256
-OfBytes (write-port offset byte) = (offset < 256) × (byte < 256)
-OfBytes (dma-read tc) = tc < 256
-OfBytes (dma-write byte tc) = (byte < 256) × (tc < 256)
-OfBytes tick = Unit {0}
-OfBytes (note-change drive) = drive < 256
-OfBytes (ticks n) = Unit {0}
-OfBytes (lends a b) = Unit {0}
+abbrev pub OfBelBytes : BelCall → Type 0
+OfBelBytes (power-on head0 head1) = (head0 < 256) × (head1 < 256)
+OfBelBytes (read-port offset) = offset < 256
+OfBelBytes (write-port offset byte) = (offset < 256) × (byte < 256)
+OfBelBytes (dma-read tc) = tc < 256
+OfBelBytes (dma-write byte tc) = (byte < 256) × (tc < 256)
+OfBelBytes tick = Unit {0}
+OfBelBytes (note-change drive) = drive < 256
+OfBelBytes (ticks n) = Unit {0}
+OfBelBytes (lends a b) = Unit {0}
 
-abbrev pub AllOfBytes : List BelCall → Type 0
-AllOfBytes [] = Unit {0}
-AllOfBytes (call ∷ calls) = OfBytes call × AllOfBytes calls
+abbrev pub AllBelBytes : List BelCall → Type 0
+AllBelBytes [] = Unit {0}
+AllBelBytes (call ∷ calls) = OfBelBytes call × AllBelBytes calls
 
 -- 01 Refusals: nobody else changes the image of that drive: another may be lent for the other drive alone
 abbrev pub StaysBy : ℕ → BelCall → Box → Type 0
@@ -56,8 +56,8 @@ Stays drive [] x = Unit {0}
 Stays drive (call ∷ calls) x = StaysBy drive call x × Stays drive calls (boxAfter call x)
 
 -- the image of a drive among what is lent
-abbrev pub imageOf : ℕ → World → List ℕ
-imageOf drive w = pickOf drive (w .first) (w .second)
+abbrev pub worldImage : ℕ → World → List ℕ
+worldImage drive w = pickOf drive (w .first) (w .second)
 
 abbrev pub boxOf : Controller → World → Box
 boxOf c w = record { controller = c; first = w .first; second = w .second }
@@ -65,19 +65,19 @@ boxOf c w = record { controller = c; first = w .first; second = w .second }
 -- a Write Data or Write Deleted was accepted by a reached record in the bytes, and its drive's image has a disk
 pub record Accepted (w : World) (c : Controller) (order : Order) (transfer : Transfer) (id : Id) (g : Geometry)
     : Type 0 where
-  pub holds : Holds (w .bytes) c
+  pub holds : HoldsRecord (w .bytes) c
   pub real : Real c
   pub writes : Writes c order transfer id
-  pub disk : diskIn (imageOf (order .drive) w) ≡ Present g
+  pub disk : diskIn (worldImage (order .drive) w) ≡ Present g
 
 -- demand 3 of an image after some of the library's calls
 abbrev pub LeftAfter : World → Controller → Order → Transfer → Id → Geometry → List BelCall → List ℕ → Type 0
 LeftAfter w c order transfer id g calls img =
-    LeftBy g (headOf order c) transfer (record { id = id; side = order .side }) (imageOf (order .drive) w) img
-    (historyOf (callsMade calls (boxOf c w)) c fresh)
+    LeftBy g (headOf order c) transfer (record { id = id; side = order .side }) (worldImage (order .drive) w) img
+    (historyOf (callsMade calls (boxOf c w)) c noHistory)
 
 -- what is lent after the first i stores of a `bel_ticks`, if they reach memory in their order
-abbrev pub storesOn : ℕ → World → List Stored
+abbrev pub storesOn : ℕ → World → List StoreMade
 storesOn n w = storesIn n (w .first) (w .second) (recordIn (w .bytes))
 
 abbrev pub inside : ℕ → ℕ → World → World
@@ -91,16 +91,16 @@ inside n i w =
 pub record FromFirmware : Type 0 where
   -- every record after power-on, whatever stood in the bytes and whatever images are lent
   pub real : (w : World) → recordSize ≤ length (w .bytes) → (head0 head1 : ℕ) (calls : List BelCall)
-      → AllOfBytes calls → Real (recordIn (worldLeft (power-on head0 head1 ∷ calls) w .bytes))
+      → AllBelBytes calls → Real (recordIn (worldLeft (power-on head0 head1 ∷ calls) w .bytes))
   -- demand 3: after any calls of a write command, `bel_ticks` among them, the image in the firmware's memory
   pub power-cut : (w : World) (c : Controller) (order : Order) (transfer : Transfer) (id : Id) (g : Geometry)
       → Accepted w c order transfer id g → (calls : List BelCall)
       → Its (callsMade calls (boxOf c w)) c → Stays (order .drive) calls (boxOf c w)
-      → LeftAfter w c order transfer id g calls (imageOf (order .drive) (worldLeft calls w))
+      → LeftAfter w c order transfer id g calls (worldImage (order .drive) (worldLeft calls w))
   -- and with the power gone inside a `bel_ticks` of n, after i of its stores: as after j of its ticks
   pub cut-inside : (w : World) (c : Controller) (order : Order) (transfer : Transfer) (id : Id) (g : Geometry)
       → Accepted w c order transfer id g → (calls : List BelCall) (n i : ℕ)
       → Its (callsMade (calls ++ (ticks n ∷ [])) (boxOf c w)) c → Stays (order .drive) calls (boxOf c w)
       → (j : ℕ) × ((j ≤ n)
       × LeftAfter w c order transfer id g (calls ++ (ticks j ∷ []))
-      (imageOf (order .drive) (inside n i (worldLeft calls w))))
+      (worldImage (order .drive) (inside n i (worldLeft calls w))))

@@ -12,7 +12,7 @@ use Rattle.fdc.specs.Calls.{powerOn}
 use Rattle.fdc.specs.Record.{freshOf}
 use Rattle.reached.specs.Runs.{runCalls}
 use Rattle.demands.specs.Quiet.{AllBytes}
-use Rattle.pack.specs.Back.{Holds, Typed}
+use Rattle.pack.specs.Back.{HoldsRecord, Typed}
 use Rattle.pack.specs.Bytes.{byteAt, recordSize, recordIn, isRecord}
 use Rattle.pack.specs.Places.{version, versionAt}
 use Rattle.capi.specs.Word.{noRecord}
@@ -21,14 +21,14 @@ use Rattle.firmware.specs.Calls.{note-change, ticks, lends, wordTo, worl
 use Rattle.firmware.specs.Made.{Box, boxLeft, callsMade, wordBy}
 
 -- what is lent holds that record, and those are the images
-pub record Shows (w : World) (x : Box) : Type 0 where
-  pub record-is : Holds (w .bytes) (x .controller)
+pub record ShowsBox (w : World) (x : Box) : Type 0 where
+  pub record-is : HoldsRecord (w .bytes) (x .controller)
   pub first : w .first ≡ x .first
   pub second : w .second ≡ x .second
 
 -- after a list of calls, and of the call that is made next, whichever it is
-pub record Follows (w : World) (x : Box) (calls : List BelCall) : Type 0 where
-  pub shows : Shows (worldLeft calls w) (boxLeft calls x)
+pub record FollowsBox (w : World) (x : Box) (calls : List BelCall) : Type 0 where
+  pub shows : ShowsBox (worldLeft calls w) (boxLeft calls x)
   pub run : boxLeft calls x .controller ≡ runCalls (callsMade calls x) (x .controller)
   pub word : (next : BelCall) → wordTo next (worldLeft calls w) ≡ wordBy next (boxLeft calls x)
 
@@ -36,7 +36,7 @@ pub record Follows (w : World) (x : Box) (calls : List BelCall) : Type 0 where
 -- is `Typed`, as `AnyBytes` says
 abbrev pub OverLists : Type 0
 OverLists =
-    (w : World) (x : Box) → Shows w x → Typed (x .controller) → (calls : List BelCall) → Follows w x calls
+    (w : World) (x : Box) → ShowsBox w x → Typed (x .controller) → (calls : List BelCall) → FollowsBox w x calls
 
 -- every call but power-on
 abbrev pub NeedsRecord : BelCall → Type 0
@@ -56,7 +56,7 @@ pub record AnyBytes (w : World) : Type 0 where
   pub typed : AllBytes (w .bytes) → Typed (recordIn (w .bytes))
   -- enough of them hold a record from power-on on, refused or not
   pub powered : recordSize ≤ length (w .bytes) → (head0 head1 : ℕ)
-      → Shows (worldAfter (power-on head0 head1) w)
+      → ShowsBox (worldAfter (power-on head0 head1) w)
       (record { controller = powerOn head0 head1 .controller; first = w .first; second = w .second })
       × Typed (powerOn head0 head1 .controller)
   -- too few, and those that are no record, stay: refusal 4 with both lines off
@@ -76,7 +76,7 @@ refusalIn word = word / 0x100 % 0x100
 
 -- 01 Refusals: the record as handed in, images stay; 5 has a fresh record with heads at 0
 abbrev pub Fresh : World → World → Type 0
-Fresh w after = Holds (after .bytes) (freshOf 0 0) × ((after .first ≡ w .first) × (after .second ≡ w .second))
+Fresh w after = HoldsRecord (after .bytes) (freshOf 0 0) × ((after .first ≡ w .first) × (after .second ≡ w .second))
 
 abbrev pub Left : ℕ → World → World → Type 0
 Left number w after = (number ≡ 5 → Fresh w after) × ((number ≡ 5 → ⊥) → after ≡ w)

@@ -27,16 +27,16 @@ pub record Box : Type 0 where
   pub second : List ℕ
 
 -- up to n ticks, none after the first that changes INT or DRQ; each is handed the images as the one before left them
-unfoldable pub ticksFrom : ℕ → List ℕ → List ℕ → Controller → List Call
-ticksFrom zero a b c = []
-ticksFrom (suc n) a b c =
+unfoldable pub tickCalls : ℕ → List ℕ → List ℕ → Controller → List Call
+tickCalls zero a b c = []
+tickCalls (suc n) a b c =
     one-tick a b
     ∷ cond (changed (intOf c) (drqOf c) (answerTo (one-tick a b) c .int) (answerTo (one-tick a b) c .drq)) []
-    (ticksFrom n (imageAfter 0 a b c a) (imageAfter 1 a b c b) (after (one-tick a b) c))
+    (tickCalls n (imageAfter 0 a b c a) (imageAfter 1 a b c b) (after (one-tick a b) c))
 
 -- 01 Refusals 4: of a damaged record none is made
 unfoldable pub ticksMade : ℕ → List ℕ → List ℕ → Controller → List Call
-ticksMade n a b c = cond (validOf c) (ticksFrom n a b c) []
+ticksMade n a b c = cond (validOf c) (tickCalls n a b c) []
 
 -- what a call makes; a byte that is not 0 is TC
 unfoldable pub callsIn : BelCall → Box → List Call

@@ -8,11 +8,11 @@ use Rattle.image.specs.declared.disk.Disk.the-variants.{Present}
 use Rattle.image.specs.Layout.{sizeOf, trackLength, lengthOf, trackAt, offsetOf, Has}
 use Rattle.image.specs.Disk.{headerIn, geometryIn, diskIn, Fits}
 use Rattle.image.specs.Sound.{Sound, Track, markIn, NoTwins}
-use Rattle.image.specs.Examples.{Examples, disk, sample}
+use Rattle.image.specs.Examples.{ImageExamples, disk, sample}
 
-pub examples : Examples
+pub image-examples : ImageExamples
 unfolding lengthOf offsetOf trackAt trackLength sizeOf
-examples = record { ex3-large = refl; ex3-small = refl; ex4-second-side = refl; ex4-last = refl }
+image-examples = record { ex3-large = refl; ex3-small = refl; ex4-second-side = refl; ex4-last = refl }
 
 -- any second sector: the image fits, and is answered with its disk
 pub sample-fits : (r : ℕ) → Fits (disk 1 1 2 1) (sample r)
@@ -37,9 +37,9 @@ unfolding diskIn headerIn geometryIn lengthOf trackLength sizeOf
 sample-present = refl
 
 -- sectors 1 and 2: sound
-pub sample-sound : Sound (disk 1 1 2 1) (sample 2)
+pub image-sound : Sound (disk 1 1 2 1) (sample 2)
 unfolding offsetOf trackAt lengthOf trackLength sizeOf
-sample-sound =
+image-sound =
     record {
       fits = sample-fits 2;
       tracks = on-track;

@@ -1,4 +1,4 @@
--- 01 Example 3, 01 Example 4, and an image to try the definitions on. The proofs are in proofs/Examples.antt.
+-- 01 Example 3, 01 Example 4, and an image to try the definitions on. The proofs are in proofs/ImageExamples.antt.
 -- Assumes nothing.
 use Prim.Native.Nat.{ℕ}
 use mathlib.Core.Bool.{false}
@@ -14,7 +14,7 @@ abbrev pub disk : ℕ → ℕ → ℕ → ℕ → Geometry
 disk cylinders heads slots n =
     record { cylinders = cylinders; heads = heads; slots = slots; n = n; protect = false }
 
-pub record Examples : Type 0 where
+pub record ImageExamples : Type 0 where
   pub ex3-large : lengthOf (disk 80 2 18 2) ≡ 1489771
   pub ex3-small : lengthOf (disk 1 1 1 1) ≡ 277
   pub ex4-second-side : offsetOf (disk 80 2 18 2) 0 1 0 ≡ 9324

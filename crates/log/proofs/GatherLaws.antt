@@ -15,33 +15,33 @@ use Rattle.log.specs.declared.line.Line.the-variants.{Malformed}
 use Rattle.log.specs.Gather.{noText, addedTo, addedAll, lineWithin, gatheredLine}
 use Rattle.log.specs.Line.{lineOf}
 
-abbrev pub bytesOf : Gathered → List ℕ
-bytesOf g = take (g .length) (g .text)
+abbrev pub gatheredText : Gathered → List ℕ
+gatheredText g = take (g .length) (g .text)
 
 abbrev withByte : ℕ → Gathered → Gathered
 withByte b g = record { text = set (g .text) (g .length) b; length = g .length + 1 }
 
 -- what adding bytes to g left, where they fit
-pub record Holds (s : List ℕ) (g h : Gathered) : Type 0 where
+pub record HoldsText (s : List ℕ) (g h : Gathered) : Type 0 where
   pub count : h .length ≡ g .length + length s
-  pub bytes : bytesOf h ≡ bytesOf g ++ s
+  pub bytes : gatheredText h ≡ gatheredText g ++ s
 
 added : (b : ℕ) (g : Gathered) → g .length < 256 → addedTo b g ≡ withByte b g
 unfolding addedTo
 added b g h = simp (lt-ltb (g .length) 256 h)
 
-pub held : (s : List ℕ) (g : Gathered) → length (g .text) ≡ 256 → g .length + length s ≤ 256 → Holds s g (addedAll s g)
+pub added-holds : (s : List ℕ) (g : Gathered) → length (g .text) ≡ 256 → g .length + length s ≤ 256 → HoldsText s g (addedAll s g)
 unfolding addedAll
-held [] g e h = record { count = omega arith; bytes = sym (append-nil (bytesOf g)) }
-held (b ∷ s) g e h =
+added-holds [] g e h = record { count = omega arith; bytes = sym (append-nil (gatheredText g)) }
+added-holds (b ∷ s) g e h =
     let room : g .length < 256 = omega arith in
-    let rest = held s (withByte b g) (length-set (g .text) (g .length) b ∙ e) (omega arith) in
-    subst (λ (k : Gathered). Holds (b ∷ s) g (addedAll s k)) (sym (added b g room)) (record {
+    let rest = added-holds s (withByte b g) (length-set (g .text) (g .length) b ∙ e) (omega arith) in
+    subst (λ (k : Gathered). HoldsText (b ∷ s) g (addedAll s k)) (sym (added b g room)) (record {
       count = rest .count ∙ omega arith;
       bytes =
           rest .bytes
           ∙ rw (add-one (g .length), take-suc-set (g .text) (g .length) b (omega arith))
-          (append-assoc (bytesOf g) (b ∷ []) s);
+          (append-assoc (gatheredText g) (b ∷ []) s);
     })
 
 pub full : (s : List ℕ) (g : Gathered) → 256 ≤ g .length → addedAll s g ≡ g
@@ -53,7 +53,7 @@ full (b ∷ s) g h = simp (le-ltb (g .length) 256 h) (full s g h)
 pub gathered-line : (s : List ℕ) → length s ≤ 255 → gatheredLine (addedAll s noText) ≡ lineOf s
 unfolding lineWithin
 gathered-line s h =
-    let all = held s noText refl (omega arith) in
+    let all = added-holds s noText refl (omega arith) in
     simp (lt-ltb (addedAll s noText .length) 256 (omega (arith, all .count))) (ap lineOf (all .bytes))
 
 -- a line of 256 bytes, and more
@@ -62,6 +62,6 @@ pub gathered-long : (s more : List ℕ)
     → gatheredLine (addedAll more (addedAll s noText)) ≡ Malformed expected.Shorter
 unfolding lineWithin
 gathered-long s more h =
-    let all = held s noText refl (omega arith) in
+    let all = added-holds s noText refl (omega arith) in
     let long : 256 ≤ addedAll s noText .length = omega (arith, all .count) in
     rw (full more (addedAll s noText) long) (simp (le-ltb (addedAll s noText .length) 256 long))

@@ -6,16 +6,16 @@ use mathlib.Core.Bool.{Bool, true, false, _&&_, cond}
 use mathlib.Core.Path.{_≡_, refl}
 use lib.Dec.{ltb, leb}
 use borrow.Author.Tests.{ltb-true, ltb-false, le-leb, lt-leb}
-use Rattle.log.specs.Hex.{within, hexOf, letterOf}
+use Rattle.log.specs.Hex.{digitWithin, hexOf, letterOf}
 
 module _ (low b high : ℕ) where
-  pub inside : low ≤ b → b ≤ high → within low b high ≡ true
+  pub inside : low ≤ b → b ≤ high → digitWithin low b high ≡ true
   inside h k = simp (le-leb low b h, le-leb b high k)
 
-  pub below : b < low → within low b high ≡ false
+  pub below : b < low → digitWithin low b high ≡ false
   below h = simp (lt-leb low b h)
 
-  pub above : high < b → within low b high ≡ false
+  pub above : high < b → digitWithin low b high ≡ false
   above h = rw (lt-leb b high h) (no (leb low b))
     where
       no : (t : Bool) → (t && false) ≡ false

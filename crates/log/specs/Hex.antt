@@ -8,17 +8,17 @@ use lib.ListN.{getD}
 use Rattle.log.specs.declared.words.Word.{Word}
 use Rattle.log.specs.declared.hex.Number.{Number}
 use Rattle.log.specs.declared.hex.Number.the-variants.{Byte, None}
-use Rattle.log.specs.Words.{lengthOf}
+use Rattle.log.specs.Words.{wordLength}
 
-abbrev pub within : ℕ → ℕ → ℕ → Bool
-within low b high = leb low b && leb b high
+abbrev pub digitWithin : ℕ → ℕ → ℕ → Bool
+digitWithin low b high = leb low b && leb b high
 
 -- a digit's value: 0 to 9, A to F, a to f; 16 for a byte that is no digit
 unfoldable pub hexOf : ℕ → ℕ
 hexOf b =
-    cond (within 0x30 b 0x39) (b - 0x30)
-    (cond (within 0x41 b 0x46) (b - 0x41 + 10)
-    (cond (within 0x61 b 0x66) (b - 0x61 + 10)
+    cond (digitWithin 0x30 b 0x39) (b - 0x30)
+    (cond (digitWithin 0x41 b 0x46) (b - 0x41 + 10)
+    (cond (digitWithin 0x61 b 0x66) (b - 0x61 + 10)
     16))
 
 -- the digit of a byte's lower half, in upper case
@@ -26,12 +26,12 @@ unfoldable pub letterOf : ℕ → ℕ
 letterOf v = cond (ltb (v % 16) 10) (0x30 + v % 16) (0x41 + (v % 16 - 10))
 
 -- two digits' number, where both are digits
-unfoldable pub numberOf : ℕ → ℕ → Number
-numberOf high low = cond (ltb high 16) (cond (ltb low 16) (Byte (high * 16 + low)) None) None
+unfoldable pub hexNumber : ℕ → ℕ → Number
+hexNumber high low = cond (ltb high 16) (cond (ltb low 16) (Byte (high * 16 + low)) None) None
 
 -- a word of one digit or of two; any other word says no number
-unfoldable pub numberIn : List ℕ → Word → Number
-numberIn s w =
-    cond (eqb (lengthOf w) 1) (numberOf 0 (hexOf (getD s (w .start) 0)))
-    (cond (eqb (lengthOf w) 2) (numberOf (hexOf (getD s (w .start) 0)) (hexOf (getD s (w .start + 1) 0)))
+unfoldable pub hexIn : List ℕ → Word → Number
+hexIn s w =
+    cond (eqb (wordLength w) 1) (hexNumber 0 (hexOf (getD s (w .start) 0)))
+    (cond (eqb (wordLength w) 2) (hexNumber (hexOf (getD s (w .start) 0)) (hexOf (getD s (w .start + 1) 0)))
     None)

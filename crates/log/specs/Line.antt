@@ -11,12 +11,12 @@ use Rattle.log.specs.declared.hex.Number.the-variants as number
 use Rattle.log.specs.declared.line.Expected.the-variants as expected
 use Rattle.log.specs.declared.line.Line.{Line}
 use Rattle.log.specs.declared.line.Line.the-variants.{Nothing, Read, Write, Malformed}
-use Rattle.log.specs.Hex.{numberIn}
-use Rattle.log.specs.Words.{lengthOf, wordFrom, letterIn}
+use Rattle.log.specs.Hex.{hexIn}
+use Rattle.log.specs.Words.{wordLength, wordFrom, letterIn}
 
 -- that line, where no word follows
 unfoldable pub endedAt : List ℕ → ℕ → Line → Line
-endedAt t at line = cond (eqb (lengthOf (wordFrom t at)) 0) line (Malformed expected.End)
+endedAt t at line = cond (eqb (wordLength (wordFrom t at)) 0) line (Malformed expected.End)
 
 -- a read by the number that was to be its offset
 abbrev pub readBy : List ℕ → ℕ → Number → Line
@@ -24,7 +24,7 @@ readBy t at (number.Byte offset) = endedAt t at (Read offset)
 readBy t at number.None = Malformed expected.Offset
 
 unfoldable pub readFrom : List ℕ → ℕ → Line
-readFrom t at = readBy t (wordFrom t at .stop) (numberIn t (wordFrom t at))
+readFrom t at = readBy t (wordFrom t at .stop) (hexIn t (wordFrom t at))
 
 -- a write by the number that was to be its byte
 abbrev pub byteBy : List ℕ → ℕ → ℕ → Number → Line
@@ -32,7 +32,7 @@ byteBy t at offset (number.Byte byte) = endedAt t at (Write offset byte)
 byteBy t at offset number.None = Malformed expected.Byte
 
 unfoldable pub byteFrom : List ℕ → ℕ → ℕ → Line
-byteFrom t at offset = byteBy t (wordFrom t at .stop) offset (numberIn t (wordFrom t at))
+byteFrom t at offset = byteBy t (wordFrom t at .stop) offset (hexIn t (wordFrom t at))
 
 -- a write by the number that was to be its offset
 abbrev pub writeBy : List ℕ → ℕ → Number → Line
@@ -40,12 +40,12 @@ writeBy t at (number.Byte offset) = byteFrom t at offset
 writeBy t at number.None = Malformed expected.Offset
 
 unfoldable pub writeFrom : List ℕ → ℕ → Line
-writeFrom t at = writeBy t (wordFrom t at .stop) (numberIn t (wordFrom t at))
+writeFrom t at = writeBy t (wordFrom t at .stop) (hexIn t (wordFrom t at))
 
 -- blank or a comment; else `r` 72, `w` 77 (hexadecimal) and what follows
 unfoldable pub callIn : List ℕ → Line
 callIn t =
-    cond (eqb (lengthOf (wordFrom t 0)) 0 || eqb (getD t (wordFrom t 0 .start) 0) 0x23) Nothing
+    cond (eqb (wordLength (wordFrom t 0)) 0 || eqb (getD t (wordFrom t 0 .start) 0) 0x23) Nothing
     (cond (eqb (letterIn t (wordFrom t 0)) 0x72) (readFrom t (wordFrom t 0 .stop))
     (cond (eqb (letterIn t (wordFrom t 0)) 0x77) (writeFrom t (wordFrom t 0 .stop))
     (Malformed expected.Call)))

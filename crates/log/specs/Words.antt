@@ -17,8 +17,8 @@ run blank [] = 0
 run blank (b ∷ s) = cond (Bool·beq (isBlank b) blank) (suc (run blank s)) 0
 
 -- a word that stops where it starts, or before, has no bytes
-abbrev pub lengthOf : Word → ℕ
-lengthOf w = w .stop - w .start
+abbrev pub wordLength : Word → ℕ
+wordLength w = w .stop - w .start
 
 -- the first word from a place on: past the blanks there, up to the next blank or the end
 abbrev pub stopFrom : List ℕ → ℕ → ℕ
@@ -32,4 +32,4 @@ wordFrom s at = record { start = startFrom s at; stop = stopFrom s (startFrom s 
 
 -- the byte of a word of one; of any other word 0
 unfoldable pub letterIn : List ℕ → Word → ℕ
-letterIn s w = cond (eqb (lengthOf w) 1) (getD s (w .start) 0) 0
+letterIn s w = cond (eqb (wordLength w) 1) (getD s (w .start) 0) 0

@@ -2,7 +2,7 @@
 use crate::words::Word;
 use crate::words::byte_at;
 ghost use mathlib.Core.Path.{_≡_};
-ghost use Rattle.log.specs.Hex.{hexOf, letterOf, numberOf, numberIn};
+ghost use Rattle.log.specs.Hex.{hexOf, letterOf, hexNumber, hexIn};
 
 pub enum Number {
     Byte(u8),
@@ -33,7 +33,7 @@ pub fn letter(value: u8) -> u8
 }
 
 fn number_of(high: u8, low: u8) -> Number
-    ensures { λ r. ⌜ r ≡ numberOf high low ⌝ }
+    ensures { λ r. ⌜ r ≡ hexNumber high low ⌝ }
 {
     if high < 16 {
         if low < 16 {
@@ -45,7 +45,7 @@ fn number_of(high: u8, low: u8) -> Number
 
 // What a word of one or two digits says; any other word says no number.
 pub fn number_in(s: &[u8], word: Word) -> Number
-    ensures { λ r. ⌜ r ≡ numberIn (now (s .entry)) word ⌝ }
+    ensures { λ r. ⌜ r ≡ hexIn (now (s .entry)) word ⌝ }
 {
     let length = word.length();
     let single = length == 1;

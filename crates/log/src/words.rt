@@ -2,7 +2,7 @@
 ghost use mathlib.Core.Path.{_≡_};
 ghost use Prim.Native.Nat.{_+_};
 ghost use lib.ListN.{getD, drop};
-ghost use Rattle.log.specs.Words.{isBlank, run, lengthOf, wordFrom, letterIn};
+ghost use Rattle.log.specs.Words.{isBlank, run, wordLength, wordFrom, letterIn};
 
 // From `start` up to, and without, `stop`. An empty word is none.
 pub struct Word {
@@ -52,7 +52,7 @@ pub fn word_from(s: &[u8], at: usize) -> Word
 
 impl Word {
     pub fn length(self) -> usize
-        ensures { λ r. ⌜ r ≡ lengthOf self ⌝ }
+        ensures { λ r. ⌜ r ≡ wordLength self ⌝ }
     {
         if self.start < self.stop {
             return self.stop - self.start;

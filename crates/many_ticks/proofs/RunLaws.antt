@@ -16,7 +16,7 @@ use Rattle.fdc.specs.Ticks.{tickOf, imageAfter, ruledOf}
 use Rattle.image.specs.Lent.{storedIn}
 use Rattle.image.proofs.StoreLaws.{effect-length}
 use Rattle.image.proofs.TestLaws.{by-test}
-use Rattle.many_ticks.specs.Run.{Ran, ranOf, ticked, changed, changedIn, runOf}
+use Rattle.many_ticks.specs.Run.{Ran, ranWith, ranOn, changed, changedIn, ranFor}
 
 -- a tick keeps an image's length
 pub image-length : (k : ℕ) (a b : List ℕ) (c : Controller) (img : List ℕ) → length (imageAfter k a b c img) ≡ length img
@@ -41,14 +41,14 @@ changed-lines c int drq stops next i d s = rw (s, i, d)
 
 -- one tick of those left
 pub run-step : (m : ℕ) (r : Ran)
-    → runOf (suc m) r ≡ cond (changedIn (r .answer) (ticked r .answer)) (ticked r) (runOf m (ticked r))
-unfolding runOf
+    → ranFor (suc m) r ≡ cond (changedIn (r .answer) (ranOn r .answer)) (ranOn r) (ranFor m (ranOn r))
+unfolding ranFor
 run-step m r = refl
 
 -- none is left
 pub finished : (n left : ℕ) (answer : Answer) (a b : List ℕ) (whole : Ran) → left ≤ 0
-    → whole ≡ runOf left (ranOf answer (n - left) a b) → whole ≡ ranOf answer n a b
-unfolding runOf
+    → whole ≡ ranFor left (ranWith answer (n - left) a b) → whole ≡ ranWith answer n a b
+unfolding ranFor
 finished n left answer a b whole none run =
     let e : left ≡ 0 = omega arith in
     let f : n - 0 ≡ n = omega arith in
@@ -61,40 +61,40 @@ module _
     (whole : Ran)
     (some : 0 < left)
     (within : left ≤ n)
-    (run : whole ≡ runOf left (ranOf answer (n - left) a b))
+    (run : whole ≡ ranFor left (ranWith answer (n - left) a b))
     (tick : next ≡ tickOf a b (answer .controller))
     (first : a' ≡ imageAfter 0 a b (answer .controller) a)
     (second : b' ≡ imageAfter 1 a b (answer .controller) b)
   where
-    after : ticked (ranOf answer (n - left) a b) ≡ ranOf next (n - (left - 1)) a' b'
-    unfolding ticked
+    after : ranOn (ranWith answer (n - left) a b) ≡ ranWith next (n - (left - 1)) a' b'
+    unfolding ranOn
     after =
         let e : n - left + 1 ≡ n - (left - 1) = omega arith in
         rw (tick, first, second, e)
 
     once : whole
-        ≡ cond (changedIn answer next) (ranOf next (n - (left - 1)) a' b')
-        (runOf (left - 1) (ranOf next (n - (left - 1)) a' b'))
+        ≡ cond (changedIn answer next) (ranWith next (n - (left - 1)) a' b')
+        (ranFor (left - 1) (ranWith next (n - (left - 1)) a' b'))
     once =
         let e : left ≡ suc (left - 1) = omega arith in
-        let r : Ran = ranOf answer (n - left) a b in
-        let step : runOf left r ≡ cond (changedIn answer (ticked r .answer)) (ticked r) (runOf (left - 1) (ticked r)) =
-        ap (λ (k : ℕ). runOf k r) e ∙ run-step (left - 1) r in
+        let r : Ran = ranWith answer (n - left) a b in
+        let step : ranFor left r ≡ cond (changedIn answer (ranOn r .answer)) (ranOn r) (ranFor (left - 1) (ranOn r)) =
+        ap (λ (k : ℕ). ranFor k r) e ∙ run-step (left - 1) r in
         run ∙ (rw after at step)
 
     -- the lines stay: the ticks left are made from there
-    pub goes-on : changedIn answer next ≡ false → whole ≡ runOf (left - 1) (ranOf next (n - (left - 1)) a' b')
+    pub goes-on : changedIn answer next ≡ false → whole ≡ ranFor (left - 1) (ranWith next (n - (left - 1)) a' b')
     goes-on same = rw same at once
 
     -- a line changes: no tick more
-    pub stops : changedIn answer next ≡ true → whole ≡ ranOf next (n - (left - 1)) a' b'
+    pub stops : changedIn answer next ≡ true → whole ≡ ranWith next (n - (left - 1)) a' b'
     stops other = rw other at once
 
 -- house: one tick at a time or many, the same
-pub ticks-one : (r : Ran) → runOf 1 r ≡ ticked r
-unfolding runOf
-ticks-one r = go (changedIn (r .answer) (ticked r .answer))
+pub ticks-one : (r : Ran) → ranFor 1 r ≡ ranOn r
+unfolding ranFor
+ticks-one r = go (changedIn (r .answer) (ranOn r .answer))
   where
-    go : (t : Bool) → cond t (ticked r) (ticked r) ≡ ticked r
+    go : (t : Bool) → cond t (ranOn r) (ranOn r) ≡ ranOn r
     go true = refl
     go false = refl

@@ -18,7 +18,7 @@ use Rattle.sectors.specs.Read.{lastByte}
 use Rattle.sectors.specs.Track.{passBytes, dataPlace}
 use Rattle.many_ticks.specs.declared.sector.Pace.{Pace}
 use Rattle.many_ticks.specs.Sector.{paceOf, readRests, readFill, readsOf}
-use Rattle.many_ticks.specs.Sector.{storeRests, Stored, storedBy, bytePut, storesOf}
+use Rattle.many_ticks.specs.Sector.{storeRests, StoredSector, paceStored, bytePut, sectorStores}
 
 some-left : (left : ℕ) → 0 < left → left ≡ suc (left - 1)
 some-left left h = omega arith
@@ -52,14 +52,14 @@ store-room site task done fifo h =
     omega (arith, last, size-le (site .disk .n))
 
 -- of two that are equal, the three parts
-pub parts : {s t : Stored} → s ≡ t → (s .pace ≡ t .pace) × ((s .first ≡ t .first) × (s .second ≡ t .second))
+pub parts : {s t : StoredSector} → s ≡ t → (s .pace ≡ t .pace) × ((s .first ≡ t .first) × (s .second ≡ t .second))
 parts e = (
-  ap (λ (s : Stored). s .pace) e,
-  (ap (λ (s : Stored). s .first) e, ap (λ (s : Stored). s .second) e),
+  ap (λ (s : StoredSector). s .pace) e,
+  (ap (λ (s : StoredSector). s .first) e, ap (λ (s : StoredSector). s .second) e),
 )
 
-pub stored-parts : {s : Stored} {pace : Pace} {a b : List ℕ} → pace ≡ s .pace → a ≡ s .first → b ≡ s .second
-    → storedBy pace a b ≡ s
+pub stored-parts : {s : StoredSector} {pace : Pace} {a b : List ℕ} → pace ≡ s .pace → a ≡ s .first → b ≡ s .second
+    → paceStored pace a b ≡ s
 stored-parts e f g = rw (e, f, g)
 
 -- a store keeps an image's length
@@ -103,24 +103,24 @@ module _ (site : Site) (task : Task) (head slot : ℕ) (efifo : Bool) (fifothr :
     abbrev drawn : Fifo
     drawn = drawnOf efifo fifothr fifo
 
-    abbrev storing : ℕ → Stored
-    storing left = storesOf site task head slot efifo fifothr asks left done fifo a b
+    abbrev storing : ℕ → StoredSector
+    storing left = sectorStores site task head slot efifo fifothr asks left done fifo a b
 
-    abbrev storeOnce : ℕ → ℕ → Stored
+    abbrev storeOnce : ℕ → ℕ → StoredSector
     storeOnce left m =
-        cond (storeRests site task done fifo) (storedBy (paceOf done fifo left) a b)
+        cond (storeRests site task done fifo) (paceStored (paceOf done fifo left) a b)
         (cond (Bool·beq asks (drawn .asks))
-        (storesOf site task head slot efifo fifothr asks m (done + 1) drawn (bytePut site head slot 0 done fifo a)
+        (sectorStores site task head slot efifo fifothr asks m (done + 1) drawn (bytePut site head slot 0 done fifo a)
         (bytePut site head slot 1 done fifo b))
-        (storedBy (paceOf (done + 1) drawn m) (bytePut site head slot 0 done fifo a)
+        (paceStored (paceOf (done + 1) drawn m) (bytePut site head slot 0 done fifo a)
         (bytePut site head slot 1 done fifo b)))
 
-    pub stores-none : (left : ℕ) → left ≤ 0 → storing left ≡ storedBy (paceOf done fifo 0) a b
-    unfolding storesOf
+    pub stores-none : (left : ℕ) → left ≤ 0 → storing left ≡ paceStored (paceOf done fifo 0) a b
+    unfolding sectorStores
     stores-none left h = let e : left ≡ 0 = omega arith in rw e
 
     stores-once : (m : ℕ) → storing (suc m) ≡ storeOnce (suc m) m
-    unfolding storesOf
+    unfolding sectorStores
     stores-once m = refl
 
     pub stores-step : (left : ℕ) → 0 < left → storing left ≡ storeOnce left (left - 1)
@@ -155,13 +155,13 @@ module _ (site : Site) (task : Task) (head slot : ℕ) (efifo : Bool) (fifothr :
               → whole ≡ readsOf site task head slot img efifo fifothr asks (left - 1) (done + 1) next
           read-on t = let h = read-moved in rw (not-false (Bool·beq asks (next .asks)) t) at h
 
-  module _ (left done : ℕ) (fifo : Fifo) (a b : List ℕ) (whole : Stored)
-      (run : whole ≡ storesOf site task head slot efifo fifothr asks left done fifo a b)
+  module _ (left done : ℕ) (fifo : Fifo) (a b : List ℕ) (whole : StoredSector)
+      (run : whole ≡ sectorStores site task head slot efifo fifothr asks left done fifo a b)
     where
-      pub store-over : left ≤ 0 → storedBy (paceOf done fifo 0) a b ≡ whole
+      pub store-over : left ≤ 0 → paceStored (paceOf done fifo 0) a b ≡ whole
       store-over none = sym (run ∙ stores-none done fifo a b left none)
 
-      pub store-rested : 0 < left → storeRests site task done fifo ≡ true → storedBy (paceOf done fifo left) a b ≡ whole
+      pub store-rested : 0 < left → storeRests site task done fifo ≡ true → paceStored (paceOf done fifo left) a b ≡ whole
       store-rested some rests = let h = run ∙ stores-step done fifo a b left some in sym (rw rests at h)
 
       module _ (some : 0 < left) (rests : storeRests site task done fifo ≡ false) (next : Fifo) (a' b' : List ℕ)
@@ -171,17 +171,17 @@ module _ (site : Site) (task : Task) (head slot : ℕ) (efifo : Bool) (fifothr :
         where
           store-moved : whole
               ≡ cond (Bool·beq asks (next .asks))
-              (storesOf site task head slot efifo fifothr asks (left - 1) (done + 1) next a' b')
-              (storedBy (paceOf (done + 1) next (left - 1)) a' b')
+              (sectorStores site task head slot efifo fifothr asks (left - 1) (done + 1) next a' b')
+              (paceStored (paceOf (done + 1) next (left - 1)) a' b')
           store-moved =
               let h = run ∙ stores-step done fifo a b left some in rw (rests, ← draw, ← first, ← second) at h
 
           pub store-turned : not (Bool·beq asks (next .asks)) ≡ true
-              → storedBy (paceOf (done + 1) next (left - 1)) a' b' ≡ whole
+              → paceStored (paceOf (done + 1) next (left - 1)) a' b' ≡ whole
           store-turned t = let h = store-moved in sym (rw (not-true (Bool·beq asks (next .asks)) t) at h)
 
           pub store-on : not (Bool·beq asks (next .asks)) ≡ false
-              → whole ≡ storesOf site task head slot efifo fifothr asks (left - 1) (done + 1) next a' b'
+              → whole ≡ sectorStores site task head slot efifo fifothr asks (left - 1) (done + 1) next a' b'
           store-on t = let h = store-moved in rw (not-false (Bool·beq asks (next .asks)) t) at h
 
   -- no more ticks are left than there were
@@ -197,12 +197,12 @@ module _ (site : Site) (task : Task) (head slot : ℕ) (efifo : Bool) (fifothr :
       (λ _. omega arith))
 
   pub stores-left : (n done : ℕ) (fifo : Fifo) (a b : List ℕ)
-      → storesOf site task head slot efifo fifothr asks n done fifo a b .pace .left ≤ n
-  unfolding storesOf
+      → sectorStores site task head slot efifo fifothr asks n done fifo a b .pace .left ≤ n
+  unfolding sectorStores
   stores-left zero done fifo a b = omega arith
   stores-left (suc n) done fifo a b =
-      by-test (storeRests site task done fifo) (λ (s : Stored). s .pace .left ≤ suc n) _ _ (λ _. omega arith)
-      (λ _. by-test (Bool·beq asks (drawnOf efifo fifothr fifo .asks)) (λ (s : Stored). s .pace .left ≤ suc n) _ _
+      by-test (storeRests site task done fifo) (λ (s : StoredSector). s .pace .left ≤ suc n) _ _ (λ _. omega arith)
+      (λ _. by-test (Bool·beq asks (drawnOf efifo fifothr fifo .asks)) (λ (s : StoredSector). s .pace .left ≤ suc n) _ _
       (λ _. omega (
         arith,
         stores-left n (done + 1) (drawnOf efifo fifothr fifo) (bytePut site head slot 0 done fifo a)

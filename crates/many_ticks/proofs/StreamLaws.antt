@@ -30,7 +30,7 @@ use Rattle.sectors.specs.Result.{movesOf}
 use Rattle.sectors.specs.Track.{staysOf, passBytes, dataPlace}
 use Rattle.sectors.specs.Write.{putOf, storeOf}
 use Rattle.engine.specs.Step.{stageOf, stageWait, goOnOf}
-use Rattle.engine.specs.Step.{workOf as workStep}
+use Rattle.engine.specs.Step.{workStep}
 use Rattle.engine.proofs.KeptLaws.{go-on-kept}
 use Rattle.fdc.specs.declared.answer.Answer.{Answer}
 use Rattle.fdc.specs.declared.answer.Reply.the-variants.{Done}
@@ -40,16 +40,16 @@ use Rattle.fdc.specs.declared.record.Phase.the-variants.{Idle, Gathering, Start
 use Rattle.fdc.specs.Answer.{answerOf}
 use Rattle.fdc.specs.Record.{driveAt, withFifo, withPhase, validOf}
 use Rattle.fdc.specs.Registers.{heldIn, intOf, drqOf}
-use Rattle.fdc.specs.Ticks.{seenOf, settledOf, decidedOf, workOf, decideIn, decideOf, ruledOf, tickOf, imageAfter}
+use Rattle.fdc.specs.Ticks.{seenOf, settledOf, decidedOf, workTick, decideIn, decideOf, ruledOf, tickOf, imageAfter}
 use Rattle.fdc.specs.Ticks.{allStand}
 use Rattle.fdc.proofs.StandLaws.{all-still, stepped-stands}
 use Rattle.fdc.proofs.ValidLaws.{Valid, valid-true, true-valid}
 use Rattle.many_ticks.specs.declared.sector.Pace.{Pace}
 use Rattle.many_ticks.specs.Sector.{paceOf, readRests, readFill, readsOf}
-use Rattle.many_ticks.specs.Sector.{storeRests, Stored, storedBy, bytePut, storesOf}
+use Rattle.many_ticks.specs.Sector.{storeRests, StoredSector, paceStored, bytePut, sectorStores}
 use Rattle.many_ticks.proofs.RunLaws.{run-step}
 use Rattle.many_ticks.proofs.SectorLaws.{not-true, neither, reads-left, stores-left}
-use Rattle.many_ticks.specs.Run.{Ran, ranOf, ticked, changedIn, runOf, onwardOf, startOf}
+use Rattle.many_ticks.specs.Run.{Ran, ranWith, ranOn, changedIn, ranFor, onwardOf, noTickMade}
 use Rattle.many_ticks.specs.declared.stream.Stream.{Stream}
 use Rattle.many_ticks.specs.declared.stream.Stream.the-variants.{Other, Reads, Stores}
 use Rattle.many_ticks.specs.Stream.{stageStream, workStream, phaseStream}
@@ -59,7 +59,7 @@ use Rattle.many_ticks.specs.Stream.{meetsOf, kept, restsOf, streamIn}
 unchanged : (x : Answer) → changedIn x x ≡ false
 unchanged x = rw (beq-self (x .int), beq-self (x .drq))
 
-stay : (n : ℕ) (r : Ran) → runOf n r ≡ onwardOf (r .answer) n r
+stay : (n : ℕ) (r : Ran) → ranFor n r ≡ onwardOf (r .answer) n r
 stay n r = rw (unchanged (r .answer))
 
 -- no store
@@ -131,14 +131,14 @@ module _ (c : Controller) (site : Site) (task : Task) where
   -- a tick that leaves the lines, and the ticks after it
   join : (stage stage' : Stage) (fifo fifo' : Fifo) (n left m : ℕ) (a b a' b' : List ℕ) (r : Ran)
       → fifo .asks ≡ fifo' .asks
-      → runOf (suc n) (ranOf (shown stage fifo) m a b)
-      ≡ onwardOf (shown stage fifo) n (ranOf (shown stage' fifo') (m + 1) a' b')
-      → runOf n (ranOf (shown stage' fifo') (m + 1) a' b') ≡ onwardOf (shown stage' fifo') left r
-      → runOf (suc n) (ranOf (shown stage fifo) m a b) ≡ onwardOf (shown stage fifo) left r
+      → ranFor (suc n) (ranWith (shown stage fifo) m a b)
+      ≡ onwardOf (shown stage fifo) n (ranWith (shown stage' fifo') (m + 1) a' b')
+      → ranFor n (ranWith (shown stage' fifo') (m + 1) a' b') ≡ onwardOf (shown stage' fifo') left r
+      → ranFor (suc n) (ranWith (shown stage fifo) m a b) ≡ onwardOf (shown stage fifo) left r
   join stage stage' fifo fifo' n left m a b a' b' r e one later =
       one
       ∙ onward-same stage stage' fifo fifo' n _ e
-      ∙ sym (stay n (ranOf (shown stage' fifo') (m + 1) a' b'))
+      ∙ sym (stay n (ranWith (shown stage' fifo') (m + 1) a' b'))
       ∙ later
       ∙ onward-same stage' stage fifo' fifo left r (sym e)
 
@@ -153,7 +153,7 @@ module _ (c : Controller) (site : Site) (task : Task) where
         ≡ decidedOf (site .drive)
         (stageOf stage site task headOf (pickOf (site .drive) a b) fifo (c .registers .efifo) (c .registers .fifothr))
         (atOf stage fifo)
-    unfolding ruledOf decideOf decideIn workOf goOnOf workStep withFifo withPhase
+    unfolding ruledOf decideOf decideIn workTick goOnOf workStep withFifo withPhase
     tick-at stage fifo v =
         rw (v, s .free, stepped-stands a b (atOf stage fifo) (s .four) (all-still (c .drives) (s .stand)), s .there)
 
@@ -161,20 +161,20 @@ module _ (c : Controller) (site : Site) (task : Task) where
     ticked-at : (stage stage' : Stage) (fifo fifo' : Fifo) (e : Effect) (m : ℕ) → validOf (atOf stage fifo) ≡ true
         → stageOf stage site task headOf (pickOf (site .drive) a b) fifo (c .registers .efifo) (c .registers .fifothr)
         ≡ movesOf stage' site task fifo' e
-        → ticked (ranOf (shown stage fifo) m a b)
-        ≡ ranOf (shown stage' fifo') (m + 1) (storedAs (site .drive) 0 e a) (storedAs (site .drive) 1 e b)
-    unfolding ticked tickOf imageAfter decidedOf answerOf ruledOf
+        → ranOn (ranWith (shown stage fifo) m a b)
+        ≡ ranWith (shown stage' fifo') (m + 1) (storedAs (site .drive) 0 e a) (storedAs (site .drive) 1 e b)
+    unfolding ranOn tickOf imageAfter decidedOf answerOf ruledOf
     ticked-at stage stage' fifo fifo' e m v step =
         rw (tick-at stage fifo v, step, v, settled-at stage stage' fifo fifo')
 
     once : (stage stage' : Stage) (fifo fifo' : Fifo) (e : Effect) (m n : ℕ) → validOf (atOf stage fifo) ≡ true
         → stageOf stage site task headOf (pickOf (site .drive) a b) fifo (c .registers .efifo) (c .registers .fifothr)
         ≡ movesOf stage' site task fifo' e
-        → runOf (suc n) (ranOf (shown stage fifo) m a b)
+        → ranFor (suc n) (ranWith (shown stage fifo) m a b)
         ≡ onwardOf (shown stage fifo) n
-        (ranOf (shown stage' fifo') (m + 1) (storedAs (site .drive) 0 e a) (storedAs (site .drive) 1 e b))
+        (ranWith (shown stage' fifo') (m + 1) (storedAs (site .drive) 0 e a) (storedAs (site .drive) 1 e b))
     once stage stage' fifo fifo' e m n v step =
-        let h = run-step n (ranOf (shown stage fifo) m a b) in
+        let h = run-step n (ranWith (shown stage fifo) m a b) in
         rw (ticked-at stage stage' fifo fifo' e m v step) at h
 
   -- another FIFO and another byte of the sector
@@ -235,13 +235,13 @@ module _ (c : Controller) (site : Site) (task : Task) where
     -- what the ticks are by the rules, in terms of how far the short way came
     abbrev ReadFrom : ℕ → ℕ → ℕ → Fifo → Pace → Type 0
     ReadFrom n m done fifo p =
-        runOf n (ranOf (shown (Reading sector done) fifo) m a b)
+        ranFor n (ranWith (shown (Reading sector done) fifo) m a b)
         ≡ onwardOf (shown (Reading sector done) fifo) (p .left)
-        (ranOf (shown (Reading sector (p .done)) (p .fifo)) (m + n - p .left) a b)
+        (ranWith (shown (Reading sector (p .done)) (p .fifo)) (m + n - p .left) a b)
 
     read-stays : (n m done : ℕ) (fifo : Fifo) → ReadFrom n m done fifo (paceOf done fifo n)
     read-stays n m done fifo =
-        let z : m + n - n ≡ m = omega arith in rw z (stay n (ranOf (shown (Reading sector done) fifo) m a b))
+        let z : m + n - n ≡ m = omega arith in rw z (stay n (ranWith (shown (Reading sector done) fifo) m a b))
 
     abbrev filled : ℕ → Fifo → Fifo
     filled done fifo =
@@ -250,9 +250,9 @@ module _ (c : Controller) (site : Site) (task : Task) where
 
     read-goes : (n m done : ℕ) (fifo : Fifo) → validOf (atOf (Reading sector done) fifo) ≡ true
         → readRests site task (c .registers .efifo) done fifo ≡ false
-        → runOf (suc n) (ranOf (shown (Reading sector done) fifo) m a b)
+        → ranFor (suc n) (ranWith (shown (Reading sector done) fifo) m a b)
         ≡ onwardOf (shown (Reading sector done) fifo) n
-        (ranOf (shown (Reading sector (done + 1)) (filled done fifo)) (m + 1) a b)
+        (ranWith (shown (Reading sector (done + 1)) (filled done fifo)) (m + 1) a b)
     read-goes n m done fifo v rests =
         let h = once a b s (Reading sector done) (Reading sector (done + 1)) fifo (filled done fifo) Nothing m n v
         (read-moves sector done headOf (pickOf (site .drive) a b) fifo (c .registers .efifo) (c .registers .fifothr)
@@ -306,26 +306,26 @@ module _ (c : Controller) (site : Site) (task : Task) where
     abbrev drawn : Fifo → Fifo
     drawn fifo = drawnOf (c .registers .efifo) (c .registers .fifothr) fifo
 
-    abbrev storing : ℕ → ℕ → Fifo → List ℕ → List ℕ → Stored
+    abbrev storing : ℕ → ℕ → Fifo → List ℕ → List ℕ → StoredSector
     storing n done fifo a b =
-        storesOf site task headOf slot (c .registers .efifo) (c .registers .fifothr) asks n done fifo a b
+        sectorStores site task headOf slot (c .registers .efifo) (c .registers .fifothr) asks n done fifo a b
 
-    abbrev StoredFrom : ℕ → ℕ → ℕ → Fifo → List ℕ → List ℕ → Stored → Type 0
+    abbrev StoredFrom : ℕ → ℕ → ℕ → Fifo → List ℕ → List ℕ → StoredSector → Type 0
     StoredFrom n m done fifo a b p =
-        runOf n (ranOf (shown (Storing slot done) fifo) m a b)
+        ranFor n (ranWith (shown (Storing slot done) fifo) m a b)
         ≡ onwardOf (shown (Storing slot done) fifo) (p .pace .left)
-        (ranOf (shown (Storing slot (p .pace .done)) (p .pace .fifo)) (m + n - p .pace .left) (p .first) (p .second))
+        (ranWith (shown (Storing slot (p .pace .done)) (p .pace .fifo)) (m + n - p .pace .left) (p .first) (p .second))
 
     store-stays : (n m done : ℕ) (fifo : Fifo) (a b : List ℕ)
-        → StoredFrom n m done fifo a b (storedBy (paceOf done fifo n) a b)
+        → StoredFrom n m done fifo a b (paceStored (paceOf done fifo n) a b)
     store-stays n m done fifo a b =
-        let z : m + n - n ≡ m = omega arith in rw z (stay n (ranOf (shown (Storing slot done) fifo) m a b))
+        let z : m + n - n ≡ m = omega arith in rw z (stay n (ranWith (shown (Storing slot done) fifo) m a b))
 
     store-goes : (n m done : ℕ) (fifo : Fifo) (a b : List ℕ) → Steady site a b c
         → validOf (atOf (Storing slot done) fifo) ≡ true → storeRests site task done fifo ≡ false
-        → runOf (suc n) (ranOf (shown (Storing slot done) fifo) m a b)
+        → ranFor (suc n) (ranWith (shown (Storing slot done) fifo) m a b)
         ≡ onwardOf (shown (Storing slot done) fifo) n
-        (ranOf (shown (Storing slot (done + 1)) (drawn fifo)) (m + 1) (put 0 done fifo a) (put 1 done fifo b))
+        (ranWith (shown (Storing slot (done + 1)) (drawn fifo)) (m + 1) (put 0 done fifo a) (put 1 done fifo b))
     store-goes n m done fifo a b s v rests =
         once a b s (Storing slot done) (Storing slot (done + 1)) fifo (drawn fifo)
         (Store (dataPlace site headOf slot done) (frontOf fifo)) m n v
@@ -360,7 +360,7 @@ module _ (c : Controller) (site : Site) (task : Task) where
     stores-run : (n m done : ℕ) (fifo : Fifo) (a b : List ℕ) → Steady site a b c
         → validOf (atOf (Storing slot done) fifo) ≡ true → fifo .asks ≡ asks
         → StoredFrom n m done fifo a b (storing n done fifo a b)
-    unfolding storesOf
+    unfolding sectorStores
     stores-run zero m done fifo a b s v e = store-stays 0 m done fifo a b
     stores-run (suc n) m done fifo a b s v e =
         by-test (storeRests site task done fifo) (StoredFrom (suc n) m done fifo a b) _ _
@@ -435,8 +435,8 @@ module _ (a b : List ℕ) (c : Controller) (four : length (c .drives) ≡ 4) whe
         (c .registers .efifo) (c .registers .fifothr) (c .fifo .asks) n done (c .fifo)
         → (p .left ≤ n)
         × (onwardOf (answerOf Done c) (p .left)
-        (ranOf (answerOf Done (atOf c site task (Reading sector (p .done)) (p .fifo))) (n - p .left) a b)
-        ≡ runOf n (startOf a b c))
+        (ranWith (answerOf Done (atOf c site task (Reading sector (p .done)) (p .fifo))) (n - p .left) a b)
+        ≡ ranFor n (noTickMade a b c))
     reads-ticks site task sector done p stream pace =
         let m : Meant a b c (Reads site task sector done) = subst (Meant a b c) stream meant in
         let start = at-start c site task (Reading sector done) (m .1) in
@@ -449,13 +449,13 @@ module _ (a b : List ℕ) (c : Controller) (four : length (c .drives) ≡ 4) whe
     -- 01 Write
     pub stores-ticks : (site : Site) (task : Task) (slot done : ℕ) (p : Pace) (a' b' : List ℕ)
         → streamIn a b c ≡ Stores site task slot done
-        → storedBy p a' b'
-        ≡ storesOf site task (driveAt (site .drive % 4) (c .drives) .head) slot (c .registers .efifo)
+        → paceStored p a' b'
+        ≡ sectorStores site task (driveAt (site .drive % 4) (c .drives) .head) slot (c .registers .efifo)
         (c .registers .fifothr) (c .fifo .asks) n done (c .fifo) a b
         → (p .left ≤ n)
         × (onwardOf (answerOf Done c) (p .left)
-        (ranOf (answerOf Done (atOf c site task (Storing slot (p .done)) (p .fifo))) (n - p .left) a' b')
-        ≡ runOf n (startOf a b c))
+        (ranWith (answerOf Done (atOf c site task (Storing slot (p .done)) (p .fifo))) (n - p .left) a' b')
+        ≡ ranFor n (noTickMade a b c))
     stores-ticks site task slot done p a' b' stream pace =
         let m : Meant a b c (Stores site task slot done) = subst (Meant a b c) stream meant in
         let start = at-start c site task (Storing slot done) (m .1) in

@@ -18,12 +18,12 @@ pub record Ran : Type 0 where
   pub first : List ℕ
   pub second : List ℕ
 
-abbrev pub ranOf : Answer → ℕ → List ℕ → List ℕ → Ran
-ranOf answer made a b = record { answer = answer; made = made; first = a; second = b }
+abbrev pub ranWith : Answer → ℕ → List ℕ → List ℕ → Ran
+ranWith answer made a b = record { answer = answer; made = made; first = a; second = b }
 
 -- one tick more
-unfoldable pub ticked : Ran → Ran
-ticked r =
+unfoldable pub ranOn : Ran → Ran
+ranOn r =
     record {
       answer = tickOf (r .first) (r .second) (r .answer .controller);
       made = r .made + 1;
@@ -37,21 +37,21 @@ changed int drq int' drq' = not (Bool·beq int int' && Bool·beq drq drq')
 abbrev pub changedIn : Answer → Answer → Bool
 changedIn p q = changed (p .int) (p .drq) (q .int) (q .drq)
 
-unfoldable pub runOf : ℕ → Ran → Ran
-runOf zero r = r
-runOf (suc n) r = cond (changedIn (r .answer) (ticked r .answer)) (ticked r) (runOf n (ticked r))
+unfoldable pub ranFor : ℕ → Ran → Ran
+ranFor zero r = r
+ranFor (suc n) r = cond (changedIn (r .answer) (ranOn r .answer)) (ranOn r) (ranFor n (ranOn r))
 
 -- of the ticks before r only the last may have changed a line; then those left
 abbrev pub onwardOf : Answer → ℕ → Ran → Ran
-onwardOf before left r = cond (changedIn before (r .answer)) r (runOf left r)
+onwardOf before left r = cond (changedIn before (r .answer)) r (ranFor left r)
 
 -- before the first tick: value 0 and the record's lines
-abbrev pub startOf : List ℕ → List ℕ → Controller → Ran
-startOf a b c = ranOf (answerOf Done c) 0 a b
+abbrev pub noTickMade : List ℕ → List ℕ → Controller → Ran
+noTickMade a b c = ranWith (answerOf Done c) 0 a b
 
 -- 01 Refusals 4: of a damaged record no tick is made
 abbrev pub refusedOf : List ℕ → List ℕ → Controller → Ran
-refusedOf a b c = ranOf (answerOf (refused 4) c) 0 a b
+refusedOf a b c = ranWith (answerOf (refused 4) c) 0 a b
 
-unfoldable pub ticksOf : ℕ → List ℕ → List ℕ → Controller → Ran
-ticksOf n a b c = cond (validOf c) (runOf n (startOf a b c)) (refusedOf a b c)
+unfoldable pub manyTicks : ℕ → List ℕ → List ℕ → Controller → Ran
+manyTicks n a b c = cond (validOf c) (ranFor n (noTickMade a b c)) (refusedOf a b c)

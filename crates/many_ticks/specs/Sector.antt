@@ -42,25 +42,25 @@ abbrev pub storeRests : Site → Task → ℕ → Fifo → Bool
 storeRests site task done fifo = leb (passBytes site task) done || eqb (fifo .count) 0
 
 -- how far it came, and both images
-pub record Stored : Type 0 where
+pub record StoredSector : Type 0 where
   pub pace : Pace
   pub first : List ℕ
   pub second : List ℕ
 
-abbrev pub storedBy : Pace → List ℕ → List ℕ → Stored
-storedBy pace a b = record { pace = pace; first = a; second = b }
+abbrev pub paceStored : Pace → List ℕ → List ℕ → StoredSector
+paceStored pace a b = record { pace = pace; first = a; second = b }
 
 -- 01 Write: one store a tick
 abbrev pub bytePut : Site → ℕ → ℕ → ℕ → ℕ → Fifo → List ℕ → List ℕ
 bytePut site head slot k done fifo img =
     storedAs (site .drive) k (Store (dataPlace site head slot done) (frontOf fifo)) img
 
-unfoldable pub storesOf : Site → Task → ℕ → ℕ → Bool → ℕ → Bool → ℕ → ℕ → Fifo → List ℕ → List ℕ → Stored
-storesOf site task head slot efifo fifothr asks zero done fifo a b = storedBy (paceOf done fifo 0) a b
-storesOf site task head slot efifo fifothr asks (suc n) done fifo a b =
-    cond (storeRests site task done fifo) (storedBy (paceOf done fifo (suc n)) a b)
+unfoldable pub sectorStores : Site → Task → ℕ → ℕ → Bool → ℕ → Bool → ℕ → ℕ → Fifo → List ℕ → List ℕ → StoredSector
+sectorStores site task head slot efifo fifothr asks zero done fifo a b = paceStored (paceOf done fifo 0) a b
+sectorStores site task head slot efifo fifothr asks (suc n) done fifo a b =
+    cond (storeRests site task done fifo) (paceStored (paceOf done fifo (suc n)) a b)
     (cond (Bool·beq asks (drawnOf efifo fifothr fifo .asks))
-    (storesOf site task head slot efifo fifothr asks n (done + 1) (drawnOf efifo fifothr fifo)
+    (sectorStores site task head slot efifo fifothr asks n (done + 1) (drawnOf efifo fifothr fifo)
     (bytePut site head slot 0 done fifo a) (bytePut site head slot 1 done fifo b))
-    (storedBy (paceOf (done + 1) (drawnOf efifo fifothr fifo) n) (bytePut site head slot 0 done fifo a)
+    (paceStored (paceOf (done + 1) (drawnOf efifo fifothr fifo) n) (bytePut site head slot 0 done fifo a)
     (bytePut site head slot 1 done fifo b)))

@@ -20,7 +20,7 @@ ghost use lib.ListN.{length};
 ghost use Rattle.fdc.specs.declared.answer.Reply.the-variants.{Done};
 ghost use Rattle.fdc.specs.Answer.{answerOf};
 ghost use Rattle.fdc.specs.Record.{validOf};
-ghost use Rattle.many_ticks.specs.Run.{changed, ranOf, startOf, runOf, onwardOf, ticksOf};
+ghost use Rattle.many_ticks.specs.Run.{changed, ranWith, noTickMade, ranFor, onwardOf, manyTicks};
 ghost use Rattle.many_ticks.specs.declared.stream.Stream.the-variants.{Reads, Stores};
 ghost use Rattle.many_ticks.specs.Stream.{streamIn};
 
@@ -40,13 +40,13 @@ fn differ(int: bool, drq: bool, next_int: bool, next_drq: bool) -> bool
 fn run(c: Controller, a: &mut [u8], b: &mut [u8], n: u32, rest: u32) -> Ran
     requires { ⌜ rest ≤ n ⌝ }
     ensures answer { λ r. ⌜ r .answer
-        ≡ runOf rest (ranOf (answerOf Done c) (n - rest) (now (a .entry)) (now (b .entry))) .answer ⌝ }
+        ≡ ranFor rest (ranWith (answerOf Done c) (n - rest) (now (a .entry)) (now (b .entry))) .answer ⌝ }
     ensures made { λ r. ⌜ r .made
-        ≡ runOf rest (ranOf (answerOf Done c) (n - rest) (now (a .entry)) (now (b .entry))) .made ⌝ }
+        ≡ ranFor rest (ranWith (answerOf Done c) (n - rest) (now (a .entry)) (now (b .entry))) .made ⌝ }
     ensures first { λ _. ⌜ now (a .exit)
-        ≡ runOf rest (ranOf (answerOf Done c) (n - rest) (now (a .entry)) (now (b .entry))) .first ⌝ }
+        ≡ ranFor rest (ranWith (answerOf Done c) (n - rest) (now (a .entry)) (now (b .entry))) .first ⌝ }
     ensures second { λ _. ⌜ now (b .exit)
-        ≡ runOf rest (ranOf (answerOf Done c) (n - rest) (now (a .entry)) (now (b .entry))) .second ⌝ }
+        ≡ ranFor rest (ranWith (answerOf Done c) (n - rest) (now (a .entry)) (now (b .entry))) .second ⌝ }
 {
     let mut answer = c.answer(Reply::Done);
     let mut left = rest;
@@ -70,13 +70,13 @@ fn run(c: Controller, a: &mut [u8], b: &mut [u8], n: u32, rest: u32) -> Ran
 fn onward(c: Controller, next: Controller, a: &mut [u8], b: &mut [u8], n: u32, left: u32) -> Ran
     requires { ⌜ left ≤ n ⌝ }
     ensures answer { λ r. ⌜ r .answer
-        ≡ onwardOf (answerOf Done c) left (ranOf (answerOf Done next) (n - left) (now (a .entry)) (now (b .entry))) .answer ⌝ }
+        ≡ onwardOf (answerOf Done c) left (ranWith (answerOf Done next) (n - left) (now (a .entry)) (now (b .entry))) .answer ⌝ }
     ensures made { λ r. ⌜ r .made
-        ≡ onwardOf (answerOf Done c) left (ranOf (answerOf Done next) (n - left) (now (a .entry)) (now (b .entry))) .made ⌝ }
+        ≡ onwardOf (answerOf Done c) left (ranWith (answerOf Done next) (n - left) (now (a .entry)) (now (b .entry))) .made ⌝ }
     ensures first { λ _. ⌜ now (a .exit)
-        ≡ onwardOf (answerOf Done c) left (ranOf (answerOf Done next) (n - left) (now (a .entry)) (now (b .entry))) .first ⌝ }
+        ≡ onwardOf (answerOf Done c) left (ranWith (answerOf Done next) (n - left) (now (a .entry)) (now (b .entry))) .first ⌝ }
     ensures second { λ _. ⌜ now (b .exit)
-        ≡ onwardOf (answerOf Done c) left (ranOf (answerOf Done next) (n - left) (now (a .entry)) (now (b .entry))) .second ⌝ }
+        ≡ onwardOf (answerOf Done c) left (ranWith (answerOf Done next) (n - left) (now (a .entry)) (now (b .entry))) .second ⌝ }
 {
     let answer = next.answer(Reply::Done);
     let stops = differ(c.int(), c.drq(), answer.int, answer.drq);
@@ -103,10 +103,10 @@ fn reading(
     requires { ⌜ validOf c ≡ true ⌝ }
     requires { ⌜ length (c .drives) ≡ 4 ⌝ }
     requires { ⌜ streamIn (now a) (now b) c ≡ Reads site task sector done ⌝ }
-    ensures answer { λ r. ⌜ r .answer ≡ runOf n (startOf (now (a .entry)) (now (b .entry)) c) .answer ⌝ }
-    ensures made { λ r. ⌜ r .made ≡ runOf n (startOf (now (a .entry)) (now (b .entry)) c) .made ⌝ }
-    ensures first { λ _. ⌜ now (a .exit) ≡ runOf n (startOf (now (a .entry)) (now (b .entry)) c) .first ⌝ }
-    ensures second { λ _. ⌜ now (b .exit) ≡ runOf n (startOf (now (a .entry)) (now (b .entry)) c) .second ⌝ }
+    ensures answer { λ r. ⌜ r .answer ≡ ranFor n (noTickMade (now (a .entry)) (now (b .entry)) c) .answer ⌝ }
+    ensures made { λ r. ⌜ r .made ≡ ranFor n (noTickMade (now (a .entry)) (now (b .entry)) c) .made ⌝ }
+    ensures first { λ _. ⌜ now (a .exit) ≡ ranFor n (noTickMade (now (a .entry)) (now (b .entry)) c) .first ⌝ }
+    ensures second { λ _. ⌜ now (b .exit) ≡ ranFor n (noTickMade (now (a .entry)) (now (b .entry)) c) .second ⌝ }
 {
     let d = c.drive(site.drive);
     let fifo = c.fifo;
@@ -145,10 +145,10 @@ fn storing(
     requires { ⌜ validOf c ≡ true ⌝ }
     requires { ⌜ length (c .drives) ≡ 4 ⌝ }
     requires { ⌜ streamIn (now a) (now b) c ≡ Stores site task slot done ⌝ }
-    ensures answer { λ r. ⌜ r .answer ≡ runOf n (startOf (now (a .entry)) (now (b .entry)) c) .answer ⌝ }
-    ensures made { λ r. ⌜ r .made ≡ runOf n (startOf (now (a .entry)) (now (b .entry)) c) .made ⌝ }
-    ensures first { λ _. ⌜ now (a .exit) ≡ runOf n (startOf (now (a .entry)) (now (b .entry)) c) .first ⌝ }
-    ensures second { λ _. ⌜ now (b .exit) ≡ runOf n (startOf (now (a .entry)) (now (b .entry)) c) .second ⌝ }
+    ensures answer { λ r. ⌜ r .answer ≡ ranFor n (noTickMade (now (a .entry)) (now (b .entry)) c) .answer ⌝ }
+    ensures made { λ r. ⌜ r .made ≡ ranFor n (noTickMade (now (a .entry)) (now (b .entry)) c) .made ⌝ }
+    ensures first { λ _. ⌜ now (a .exit) ≡ ranFor n (noTickMade (now (a .entry)) (now (b .entry)) c) .first ⌝ }
+    ensures second { λ _. ⌜ now (b .exit) ≡ ranFor n (noTickMade (now (a .entry)) (now (b .entry)) c) .second ⌝ }
 {
     let d = c.drive(site.drive);
     let fifo = c.fifo;
@@ -173,10 +173,10 @@ fn streamed(c: Controller, stream: Stream, a: &mut [u8], b: &mut [u8], n: u32) -
     requires { ⌜ validOf c ≡ true ⌝ }
     requires { ⌜ length (c .drives) ≡ 4 ⌝ }
     requires { ⌜ streamIn (now a) (now b) c ≡ stream ⌝ }
-    ensures answer { λ r. ⌜ r .answer ≡ runOf n (startOf (now (a .entry)) (now (b .entry)) c) .answer ⌝ }
-    ensures made { λ r. ⌜ r .made ≡ runOf n (startOf (now (a .entry)) (now (b .entry)) c) .made ⌝ }
-    ensures first { λ _. ⌜ now (a .exit) ≡ runOf n (startOf (now (a .entry)) (now (b .entry)) c) .first ⌝ }
-    ensures second { λ _. ⌜ now (b .exit) ≡ runOf n (startOf (now (a .entry)) (now (b .entry)) c) .second ⌝ }
+    ensures answer { λ r. ⌜ r .answer ≡ ranFor n (noTickMade (now (a .entry)) (now (b .entry)) c) .answer ⌝ }
+    ensures made { λ r. ⌜ r .made ≡ ranFor n (noTickMade (now (a .entry)) (now (b .entry)) c) .made ⌝ }
+    ensures first { λ _. ⌜ now (a .exit) ≡ ranFor n (noTickMade (now (a .entry)) (now (b .entry)) c) .first ⌝ }
+    ensures second { λ _. ⌜ now (b .exit) ≡ ranFor n (noTickMade (now (a .entry)) (now (b .entry)) c) .second ⌝ }
 {
     match stream {
         Stream::Other => run(c, a, b, n, n),
@@ -186,10 +186,10 @@ fn streamed(c: Controller, stream: Stream, a: &mut [u8], b: &mut [u8], n: u32) -
 }
 
 pub fn ticks(c: Controller, a: &mut [u8], b: &mut [u8], n: u32) -> Ran
-    ensures answer { λ r. ⌜ r .answer ≡ ticksOf n (now (a .entry)) (now (b .entry)) c .answer ⌝ }
-    ensures made { λ r. ⌜ r .made ≡ ticksOf n (now (a .entry)) (now (b .entry)) c .made ⌝ }
-    ensures first { λ _. ⌜ now (a .exit) ≡ ticksOf n (now (a .entry)) (now (b .entry)) c .first ⌝ }
-    ensures second { λ _. ⌜ now (b .exit) ≡ ticksOf n (now (a .entry)) (now (b .entry)) c .second ⌝ }
+    ensures answer { λ r. ⌜ r .answer ≡ manyTicks n (now (a .entry)) (now (b .entry)) c .answer ⌝ }
+    ensures made { λ r. ⌜ r .made ≡ manyTicks n (now (a .entry)) (now (b .entry)) c .made ⌝ }
+    ensures first { λ _. ⌜ now (a .exit) ≡ manyTicks n (now (a .entry)) (now (b .entry)) c .first ⌝ }
+    ensures second { λ _. ⌜ now (b .exit) ≡ manyTicks n (now (a .entry)) (now (b .entry)) c .second ⌝ }
 {
     let valid = c.valid();
     if valid {

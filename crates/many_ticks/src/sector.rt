@@ -12,7 +12,7 @@ use sectors::work::Task;
 ghost use mathlib.Core.Path.{_≡_};
 ghost use mathlib.Core.Bool.{Bool·beq, not};
 ghost use Rattle.image.specs.Lent.{pickOf};
-ghost use Rattle.many_ticks.specs.Sector.{readRests, readsOf, storeRests, storesOf};
+ghost use Rattle.many_ticks.specs.Sector.{readRests, readsOf, storeRests, sectorStores};
 
 // How far it came: the sector's bytes counted, and the ticks not made.
 pub struct Pace {
@@ -132,11 +132,11 @@ pub fn stores(
     n: u32,
 ) -> Pace
     ensures pace { λ r. ⌜ r
-        ≡ storesOf site task head slot efifo fifothr (f .asks) n from f (now (a .entry)) (now (b .entry)) .pace ⌝ }
+        ≡ sectorStores site task head slot efifo fifothr (f .asks) n from f (now (a .entry)) (now (b .entry)) .pace ⌝ }
     ensures first { λ _. ⌜ now (a .exit)
-        ≡ storesOf site task head slot efifo fifothr (f .asks) n from f (now (a .entry)) (now (b .entry)) .first ⌝ }
+        ≡ sectorStores site task head slot efifo fifothr (f .asks) n from f (now (a .entry)) (now (b .entry)) .first ⌝ }
     ensures second { λ _. ⌜ now (b .exit)
-        ≡ storesOf site task head slot efifo fifothr (f .asks) n from f (now (a .entry)) (now (b .entry)) .second ⌝ }
+        ≡ sectorStores site task head slot efifo fifothr (f .asks) n from f (now (a .entry)) (now (b .entry)) .second ⌝ }
 {
     let asks = f.asks;
     let mut done = from;

@@ -27,13 +27,13 @@ use Rattle.fdc.specs.declared.record.Registers.{Registers}
 use Rattle.fdc.specs.Record.{driveAt, noDrive}
 use Rattle.pack.specs.declared.flat.Flat.{Flat}
 use Rattle.pack.specs.declared.flat.Spot.{Spot}
-use Rattle.pack.specs.Back.{Holds, Typed}
+use Rattle.pack.specs.Back.{HoldsRecord, Typed}
 use Rattle.pack.specs.Bytes.{bitOf, highOf, lowOf, wideOf, passNumber, passNumbered, byteAt, registersBytes}
-use Rattle.pack.specs.Bytes.{registersIn, courseOf, motionOf, driveBytes, driveIn, fifoBytes, flowBytes, fifoIn}
-use Rattle.pack.specs.Bytes.{commandBytes, resultBytes, gatheredIn, headBytes, siteBytes, taskBytes, taskIn}
-use Rattle.pack.specs.Bytes.{spotBytes, spotIn, flatOf, bytesOf, recordIn, recordSize, registersOk, driveOk}
+use Rattle.pack.specs.Bytes.{registersIn, courseOf, motionOf, driveBytes, driveFrom, fifoBytes, flowBytes, fifoIn}
+use Rattle.pack.specs.Bytes.{commandBytes, resultBytes, gatheredIn, headBytes, siteBytes, taskBytes, taskFrom}
+use Rattle.pack.specs.Bytes.{spotBytes, spotIn, flatOf, recordBytes, recordIn, recordSize, registersOk, driveOk}
 use Rattle.pack.specs.Bytes.{flowOk, headOk, siteOk, taskOk, spotOk, drivesOk, flatOk, casesOk, isRecord}
-use Rattle.pack.specs.Flat.{phaseFlat, phaseOf}
+use Rattle.pack.specs.Flat.{phaseFlat, phaseFrom}
 use Rattle.pack.specs.Places.{version, versionAt}
 use Rattle.pack.proofs.FlatLaws.{phase-back, FlatWithin, phase-within}
 
@@ -95,7 +95,7 @@ spelt-whole d l n e =
 registers-back : (r : Registers) → registersIn (registersBytes r) ≡ r
 registers-back r = rw (flag-back (r .eis), flag-back (r .efifo), flag-back (r .poll))
 
-drive-back : (d : Drive) → courseOf (d .motion) .wait < 0x10000 → driveIn (driveBytes d) ≡ d
+drive-back : (d : Drive) → courseOf (d .motion) .wait < 0x10000 → driveFrom (driveBytes d) ≡ d
 drive-back d h =
     rw (flag-back (d .changed), flag-back (d .busy), wide-back (courseOf (d .motion) .wait) h, motion-back (d .motion))
 
@@ -106,7 +106,7 @@ gathered-back : (b : Bytes) → length (b .command) ≡ 9 → length (b .results
     → gatheredIn (commandBytes b) (resultBytes b) ≡ b
 gathered-back b h g = rw (spelt-whole 0 (b .command) 9 h, spelt-whole 0 (b .results) 7 g)
 
-task-back : (t : Task) → taskIn (taskBytes t) ≡ t
+task-back : (t : Task) → taskFrom (taskBytes t) ≡ t
 task-back t =
     rw (
       pass-back (t .transfer .pass),
@@ -143,23 +143,23 @@ flat-back f h =
 
 -- each row is read where it was written
 parts : (c : Controller) (rest : List ℕ)
-    → recordIn (bytesOf c ++ rest)
+    → recordIn (recordBytes c ++ rest)
     ≡ record {
       registers = registersIn (registersBytes (c .registers));
       drives =
-          driveIn (driveBytes (driveAt 0 (c .drives)))
-          ∷ driveIn (driveBytes (driveAt 1 (c .drives)))
-          ∷ driveIn (driveBytes (driveAt 2 (c .drives)))
-          ∷ driveIn (driveBytes (driveAt 3 (c .drives)))
+          driveFrom (driveBytes (driveAt 0 (c .drives)))
+          ∷ driveFrom (driveBytes (driveAt 1 (c .drives)))
+          ∷ driveFrom (driveBytes (driveAt 2 (c .drives)))
+          ∷ driveFrom (driveBytes (driveAt 3 (c .drives)))
           ∷ [];
       fifo = fifoIn (fifoBytes (c .fifo)) (flowBytes (c .fifo));
       bytes = gatheredIn (commandBytes (c .bytes)) (resultBytes (c .bytes));
-      phase = phaseOf (flatBack (phaseFlat (c .phase)));
+      phase = phaseFrom (flatBack (phaseFlat (c .phase)));
     }
-unfolding recordIn bytesOf
+unfolding recordIn recordBytes
 parts c rest = refl
 
-pub read-back : (c : Controller) (rest : List ℕ) → Typed c → recordIn (bytesOf c ++ rest) ≡ c
+pub read-back : (c : Controller) (rest : List ℕ) → Typed c → recordIn (recordBytes c ++ rest) ≡ c
 read-back c rest t =
     parts c rest
     ∙ rw (
@@ -204,8 +204,8 @@ course-within Still = refl
 course-within (Seeking target steps wait) = refl
 course-within (Recalibrating steps wait) = refl
 
-long : (c : Controller) (rest : List ℕ) → recordSize ≤ length (bytesOf c ++ rest)
-unfolding bytesOf
+long : (c : Controller) (rest : List ℕ) → recordSize ≤ length (recordBytes c ++ rest)
+unfolding recordBytes
 long c rest = omega arith
 
 -- what is written has its flags and cases in range
@@ -233,15 +233,15 @@ flat-ok f w =
     simp (flag-within, pass-within, kind-within, w .tag, w .work, w .stage, w .form)
 
 ok-parts : (c : Controller) (rest : List ℕ)
-    → casesOk (bytesOf c ++ rest)
+    → casesOk (recordBytes c ++ rest)
     ≡ registersOk (registersBytes (c .registers))
     && (driveOk (driveBytes (driveAt 0 (c .drives))) && driveOk (driveBytes (driveAt 1 (c .drives)))
     && driveOk (driveBytes (driveAt 2 (c .drives))) && driveOk (driveBytes (driveAt 3 (c .drives))))
     && flowOk (flowBytes (c .fifo)) && flatGood (phaseFlat (c .phase))
-unfolding casesOk drivesOk flatOk bytesOf
+unfolding casesOk drivesOk flatOk recordBytes
 ok-parts c rest = refl
 
-pub cases-ok : (c : Controller) (rest : List ℕ) → casesOk (bytesOf c ++ rest) ≡ true
+pub cases-ok : (c : Controller) (rest : List ℕ) → casesOk (recordBytes c ++ rest) ≡ true
 cases-ok c rest =
     ok-parts c rest
     ∙ rw (
@@ -254,20 +254,20 @@ cases-ok c rest =
       flat-ok (phaseFlat (c .phase)) (phase-within (c .phase)),
     )
 
-version-first : (c : Controller) (rest : List ℕ) → byteAt (bytesOf c ++ rest) versionAt ≡ version
-unfolding bytesOf
+version-first : (c : Controller) (rest : List ℕ) → byteAt (recordBytes c ++ rest) versionAt ≡ version
+unfolding recordBytes
 version-first c rest = refl
 
-pub is-record : (c : Controller) (rest : List ℕ) → isRecord (bytesOf c ++ rest) ≡ true
+pub is-record : (c : Controller) (rest : List ℕ) → isRecord (recordBytes c ++ rest) ≡ true
 unfolding isRecord
 is-record c rest =
     rw (
-      le-leb recordSize (length (bytesOf c ++ rest)) (long c rest),
+      le-leb recordSize (length (recordBytes c ++ rest)) (long c rest),
       version-first c rest,
       cases-ok c rest,
     )
 
-pub holds : (c : Controller) (rest : List ℕ) → Typed c → Holds (bytesOf c ++ rest) c
+pub holds : (c : Controller) (rest : List ℕ) → Typed c → HoldsRecord (recordBytes c ++ rest) c
 holds c rest t = record { good = is-record c rest; back = read-back c rest t }
 
 -- house: another version's bytes are no record

@@ -28,11 +28,11 @@ use Rattle.fdc.specs.Record.{withFifo, validOf}
 use Rattle.fdc.specs.Registers.{gateIn, dmaIn, pendingIn, flowAsks, intOf, drqOf}
 use Rattle.fdc.proofs.DmaLaws.{dma-read-is, dma-write-is}
 use Rattle.pack.specs.declared.flat.Spot.{Spot}
-use Rattle.pack.specs.Back.{Holds}
-use Rattle.pack.specs.Bytes.{byteAt, flagAt, rowAt, within, passNumbered, motionOf, fifoBytes, flowBytes, fifoIn}
-use Rattle.pack.specs.Bytes.{siteIn, taskIn, spotIn, flatIn, recordSize, fifoPut, recordIn, drivesOk, flowOk}
+use Rattle.pack.specs.Back.{HoldsRecord}
+use Rattle.pack.specs.Bytes.{byteAt, flagAt, rowAt, atMost, passNumbered, motionOf, fifoBytes, flowBytes, fifoIn}
+use Rattle.pack.specs.Bytes.{siteIn, taskFrom, spotIn, flatIn, recordSize, fifoPut, recordIn, drivesOk, flowOk}
 use Rattle.pack.specs.Bytes.{flatOk, casesOk, isRecord}
-use Rattle.pack.specs.Flat.{stageOf, workOf, phaseOf}
+use Rattle.pack.specs.Flat.{stageFrom, workFrom, phaseFrom}
 use Rattle.pack.specs.Places.{version, registersRow, driveRow, flowRow, commandRow, resultRow, phaseRow, siteRow}
 use Rattle.pack.specs.Places.{taskRow, spotRow, versionAt, dorAt, spec2At, efifoAt, fifothrAt, headAt, motionAt}
 use Rattle.pack.specs.Places.{countAt, asksAt, gatheredAt, leftAt, tagAt, workAt, passAt, spotCountAt}
@@ -84,7 +84,7 @@ between-long f l = omega arith
 
 -- the record with that FIFO
 pub holds-fifo : (f : Fifo) (l : List ℕ) → length (f .bytes) ≡ 16 → isRecord l ≡ true
-    → Holds (fifoPut f l) (withFifo f (recordIn l))
+    → HoldsRecord (fifoPut f l) (withFifo f (recordIn l))
 unfolding isRecord
 holds-fifo f l sixteen h =
     let long : recordSize ≤ length l = record-long l h in
@@ -104,14 +104,14 @@ record Cycles (l : List ℕ) : Type 0 where
   phase : byteAt (rowAt l phaseRow) tagAt ≡ 3
   work : byteAt (rowAt l phaseRow) workAt ≡ 1
   count : leb (byteAt (rowAt l flowRow) countAt) (capacityOf (flagAt (rowAt l registersRow) efifoAt)) ≡ true
-  gathered : within (rowAt l commandRow) gatheredAt 9 ≡ true
-  left : within (rowAt l resultRow) leftAt 7 ≡ true
-  fifothr : within (rowAt l registersRow) fifothrAt 15 ≡ true
-  wait : within (rowAt l spotRow) spotCountAt 64 ≡ true
-  head0 : within (rowAt l (driveRow 0)) headAt 81 ≡ true
-  head1 : within (rowAt l (driveRow 1)) headAt 81 ≡ true
-  head2 : within (rowAt l (driveRow 2)) headAt 81 ≡ true
-  head3 : within (rowAt l (driveRow 3)) headAt 81 ≡ true
+  gathered : atMost (rowAt l commandRow) gatheredAt 9 ≡ true
+  left : atMost (rowAt l resultRow) leftAt 7 ≡ true
+  fifothr : atMost (rowAt l registersRow) fifothrAt 15 ≡ true
+  wait : atMost (rowAt l spotRow) spotCountAt 64 ≡ true
+  head0 : atMost (rowAt l (driveRow 0)) headAt 81 ≡ true
+  head1 : atMost (rowAt l (driveRow 1)) headAt 81 ≡ true
+  head2 : atMost (rowAt l (driveRow 2)) headAt 81 ≡ true
+  head3 : atMost (rowAt l (driveRow 3)) headAt 81 ≡ true
   still0 : eqb (byteAt (rowAt l (driveRow 0)) motionAt) 0 ≡ true
   still1 : eqb (byteAt (rowAt l (driveRow 1)) motionAt) 0 ≡ true
   still2 : eqb (byteAt (rowAt l (driveRow 2)) motionAt) 0 ≡ true
@@ -129,23 +129,23 @@ cycles-told l h =
       count =
           told (leb (byteAt (rowAt l flowRow) countAt) (capacityOf (flagAt (rowAt l registersRow) efifoAt)))
           (λ e. simp (e, and-false) at h);
-      gathered = told (within (rowAt l commandRow) gatheredAt 9) (λ e. simp (e, and-false) at h);
-      left = told (within (rowAt l resultRow) leftAt 7) (λ e. simp (e, and-false) at h);
-      fifothr = told (within (rowAt l registersRow) fifothrAt 15) (λ e. simp (e, and-false) at h);
-      wait = told (within (rowAt l spotRow) spotCountAt 64) (λ e. simp (e, and-false) at h);
-      head0 = told (within (rowAt l (driveRow 0)) headAt 81) (λ e. simp (e, and-false) at h);
-      head1 = told (within (rowAt l (driveRow 1)) headAt 81) (λ e. simp (e, and-false) at h);
-      head2 = told (within (rowAt l (driveRow 2)) headAt 81) (λ e. simp (e, and-false) at h);
-      head3 = told (within (rowAt l (driveRow 3)) headAt 81) (λ e. simp (e, and-false) at h);
+      gathered = told (atMost (rowAt l commandRow) gatheredAt 9) (λ e. simp (e, and-false) at h);
+      left = told (atMost (rowAt l resultRow) leftAt 7) (λ e. simp (e, and-false) at h);
+      fifothr = told (atMost (rowAt l registersRow) fifothrAt 15) (λ e. simp (e, and-false) at h);
+      wait = told (atMost (rowAt l spotRow) spotCountAt 64) (λ e. simp (e, and-false) at h);
+      head0 = told (atMost (rowAt l (driveRow 0)) headAt 81) (λ e. simp (e, and-false) at h);
+      head1 = told (atMost (rowAt l (driveRow 1)) headAt 81) (λ e. simp (e, and-false) at h);
+      head2 = told (atMost (rowAt l (driveRow 2)) headAt 81) (λ e. simp (e, and-false) at h);
+      head3 = told (atMost (rowAt l (driveRow 3)) headAt 81) (λ e. simp (e, and-false) at h);
       still0 = told (eqb (byteAt (rowAt l (driveRow 0)) motionAt) 0) (λ e. simp (e, and-false) at h);
       still1 = told (eqb (byteAt (rowAt l (driveRow 1)) motionAt) 0) (λ e. simp (e, and-false) at h);
       still2 = told (eqb (byteAt (rowAt l (driveRow 2)) motionAt) 0) (λ e. simp (e, and-false) at h);
       still3 = told (eqb (byteAt (rowAt l (driveRow 3)) motionAt) 0) (λ e. simp (e, and-false) at h);
     }
 
--- a count within the bound of a wait, whatever it counts
-wait-within : (spot : Spot) → leb (spot .count) 64 ≡ true → leb (stageWait (stageOf spot)) 64 ≡ true
-unfolding stageOf
+-- a count atMost the bound of a wait, whatever it counts
+wait-within : (spot : Spot) → leb (spot .count) 64 ≡ true → leb (stageWait (stageFrom spot)) 64 ≡ true
+unfolding stageFrom
 wait-within spot h =
     let P : Stage → Type 0 = λ s. leb (stageWait s) 64 ≡ true in
     by-test (eqb (spot .stage) 0) P _ _ (λ _. refl)
@@ -155,10 +155,10 @@ wait-within spot h =
     (λ _. by-test (eqb (spot .stage) 4) P _ _ (λ _. h) (λ _. refl)))))
 
 phase-moving : (l : List ℕ) → Cycles l
-    → phaseOf (flatIn l)
+    → phaseFrom (flatIn l)
     ≡ Working
-    (Moving (siteIn (rowAt l siteRow)) (taskIn (rowAt l taskRow)) (stageOf (spotIn (rowAt l spotRow))))
-unfolding phaseOf workOf
+    (Moving (siteIn (rowAt l siteRow)) (taskFrom (rowAt l taskRow)) (stageFrom (spotIn (rowAt l spotRow))))
+unfolding phaseFrom workFrom
 phase-moving l k = rw (k .phase, k .work)
 
 -- 01 Refusals 4: the record is not damaged
@@ -198,7 +198,7 @@ pub cycle-drq : (f : Fifo) (l : List ℕ) → cyclesIn l ≡ true → drqOf (wit
 unfolding drqOf withFifo recordIn
 cycle-drq f l h =
     let k : Cycles l = cycles-told l h in
-    rw (k .gate, k .dma, phase-moving l k, pass-asks (taskIn (rowAt l taskRow) .transfer .pass) (f .asks))
+    rw (k .gate, k .dma, phase-moving l k, pass-asks (taskFrom (rowAt l taskRow) .transfer .pass) (f .asks))
 
 pass-told : (n : ℕ) (l : List ℕ)
     → cond (leb recordSize (length l)) (cyclesIn l && eqb (byteAt (rowAt l taskRow) passAt) n) false ≡ true

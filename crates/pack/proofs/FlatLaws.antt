@@ -16,10 +16,10 @@ use Rattle.fdc.specs.declared.record.Phase.{Phase}
 use Rattle.fdc.specs.declared.record.Phase.the-variants.{Idle, Gathering, Starting, Working, Sensing, Answering}
 use Rattle.pack.specs.declared.flat.Flat.{Flat}
 use Rattle.pack.specs.Flat.{stageSpot, formSpot, jobFlat, workFlat, phaseFlat}
-use Rattle.pack.specs.Flat.{stageOf, formOf, jobOf, workOf, phaseOf}
+use Rattle.pack.specs.Flat.{stageFrom, formFrom, jobFrom, workFrom, phaseFrom}
 
-pub stage-back : (stage : Stage) → stageOf (stageSpot stage) ≡ stage
-unfolding stageOf
+pub stage-back : (stage : Stage) → stageFrom (stageSpot stage) ≡ stage
+unfolding stageFrom
 stage-back (Searching look) = refl
 stage-back (Turning slot) = refl
 stage-back (Reading sector done) = refl
@@ -27,28 +27,28 @@ stage-back (Draining sector looks) = refl
 stage-back (Awaiting slot wait) = refl
 stage-back (Storing slot done) = refl
 
-pub form-back : (f : Form) → formOf (formSpot f) ≡ f
-unfolding formOf
+pub form-back : (f : Form) → formFrom (formSpot f) ≡ f
+unfolding formFrom
 form-back (form.Awaiting slot wait) = refl
 form-back (form.Addressing slot k) = refl
 form-back (form.Filling slot done) = refl
 form-back (form.Clearing slot) = refl
 
-work-back : (work : Work) → phaseOf (workFlat work) ≡ Working work
-unfolding phaseOf workOf
+work-back : (work : Work) → phaseFrom (workFlat work) ≡ Working work
+unfolding phaseFrom workFrom
 work-back (Identifying site slot passes) = refl
 work-back (Moving site task stage) = rw (stage-back stage)
 work-back (Formatting site plan f) = rw (form-back f)
 
 start-back : (drive side : ℕ) (job : Job)
-    → phaseOf (jobFlat drive side job) ≡ Starting (record { drive = drive; side = side; job = job })
-unfolding phaseOf jobOf
+    → phaseFrom (jobFlat drive side job) ≡ Starting (record { drive = drive; side = side; job = job })
+unfolding phaseFrom jobFrom
 start-back drive side Identify = refl
 start-back drive side (Move transfer id) = refl
 start-back drive side (Format plan) = refl
 
-pub phase-back : (phase : Phase) → phaseOf (phaseFlat phase) ≡ phase
-unfolding phaseOf
+pub phase-back : (phase : Phase) → phaseFrom (phaseFlat phase) ≡ phase
+unfolding phaseFrom
 phase-back Idle = refl
 phase-back (Gathering entry) = refl
 phase-back (Starting order) = start-back (order .drive) (order .side) (order .job)

@@ -11,7 +11,7 @@ use lib.ListN.{length, drop, set}
 use lib.Seq.{sets, sets-eq}
 use Rattle.fdc.specs.declared.record.Controller.{Controller}
 use Rattle.pack.specs.Flat.{phaseFlat}
-use Rattle.pack.specs.Bytes.{recordSize, registersBytes, drivesPut, fifoPut, gatheredPut, flatPut, bytesOf}
+use Rattle.pack.specs.Bytes.{recordSize, registersBytes, drivesPut, fifoPut, gatheredPut, flatPut, recordBytes}
 use Rattle.pack.specs.Bytes.{isRecord, recordIn, loadedOf}
 use Rattle.pack.specs.Places.{registersRow}
 
@@ -35,9 +35,9 @@ pub record-put : (c : Controller) (l : List ℕ) → recordSize ≤ length l
     → flatPut (phaseFlat (c .phase))
     (gatheredPut (c .bytes)
     (fifoPut (c .fifo) (drivesPut (c .drives) (sets l registersRow (registersBytes (c .registers))))))
-    ≡ bytesOf c ++ drop recordSize l
-unfolding drivesPut fifoPut gatheredPut flatPut bytesOf
-record-put c l h = sets-eq (bytesOf c) l 0 h
+    ≡ recordBytes c ++ drop recordSize l
+unfolding drivesPut fifoPut gatheredPut flatPut recordBytes
+record-put c l h = sets-eq (recordBytes c) l 0 h
 
 -- bytes that are a record are enough
 pub record-long : (l : List ℕ) → isRecord l ≡ true → recordSize ≤ length l

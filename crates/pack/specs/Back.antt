@@ -12,7 +12,7 @@ use Rattle.pack.specs.Bytes.{courseOf, recordIn, isRecord}
 use Rattle.pack.specs.Flat.{phaseFlat}
 
 -- the bytes are a record, and it is that one
-pub record Holds (l : List ℕ) (c : Controller) : Type 0 where
+pub record HoldsRecord (l : List ℕ) (c : Controller) : Type 0 where
   pub good : isRecord l ≡ true
   pub back : recordIn l ≡ c
 

@@ -24,7 +24,7 @@ use Rattle.fdc.specs.Record.{driveAt, freshOf}
 use Rattle.pack.specs.declared.drives.Course.{Course}
 use Rattle.pack.specs.declared.flat.Flat.{Flat}
 use Rattle.pack.specs.declared.flat.Spot.{Spot}
-use Rattle.pack.specs.Flat.{phaseFlat, phaseOf}
+use Rattle.pack.specs.Flat.{phaseFlat, phaseFrom}
 use Rattle.pack.specs.Places.{version, registersRow, driveRow, fifoRow, flowRow, commandRow, resultRow}
 use Rattle.pack.specs.Places.{phaseRow, siteRow, taskRow, spotRow, versionAt, dorAt, tdrAt, rateAt, spec1At}
 use Rattle.pack.specs.Places.{spec2At, eisAt, efifoAt, pollAt, fifothrAt, pretrkAt, headAt, pcnAt, changedAt}
@@ -110,8 +110,8 @@ abbrev pub driveBytes : Drive → List ℕ
 driveBytes d =
     d .head ∷ d .pcn ∷ bitOf (d .changed) ∷ bitOf (d .busy) ∷ d .report ∷ motionBytes (courseOf (d .motion))
 
-abbrev pub driveIn : List ℕ → Drive
-driveIn row =
+abbrev pub driveFrom : List ℕ → Drive
+driveFrom row =
     record {
       head = byteAt row headAt;
       pcn = byteAt row pcnAt;
@@ -198,8 +198,8 @@ taskBytes t =
     ∷ bitOf (t .transfer .sk) ∷ t .transfer .eot ∷ t .transfer .dtl ∷ 0 ∷ 0 ∷ t .id .c ∷ t .id .h ∷ t .id .r ∷ t .id .n
     ∷ bitOf (t .other) ∷ 0 ∷ 0 ∷ 0 ∷ []
 
-abbrev pub taskIn : List ℕ → Task
-taskIn row =
+abbrev pub taskFrom : List ℕ → Task
+taskFrom row =
     record {
       transfer =
           record {
@@ -245,7 +245,7 @@ flatOf head site task spot =
       loud = flagAt head loudAt;
       work = byteAt head workAt;
       site = siteIn site;
-      task = taskIn task;
+      task = taskFrom task;
       plan = planIn site;
       spot = spotIn spot;
     }
@@ -265,8 +265,8 @@ drivesBytes drives =
 abbrev pub flatBytes : Flat → List ℕ
 flatBytes f = headBytes f ++ siteBytes (f .site) (f .plan) ++ taskBytes (f .task) ++ spotBytes (f .spot)
 
-unfoldable pub bytesOf : Controller → List ℕ
-bytesOf c =
+unfoldable pub recordBytes : Controller → List ℕ
+recordBytes c =
     registersBytes (c .registers) ++ drivesBytes (c .drives) ++ (fifoBytes (c .fifo) ++ flowBytes (c .fifo))
     ++ (commandBytes (c .bytes) ++ resultBytes (c .bytes)) ++ flatBytes (phaseFlat (c .phase))
 
@@ -293,8 +293,8 @@ flatPut f l =
 
 abbrev pub drivesIn : List ℕ → List Drive
 drivesIn l =
-    driveIn (rowAt l (driveRow 0)) ∷ driveIn (rowAt l (driveRow 1)) ∷ driveIn (rowAt l (driveRow 2))
-    ∷ driveIn (rowAt l (driveRow 3)) ∷ []
+    driveFrom (rowAt l (driveRow 0)) ∷ driveFrom (rowAt l (driveRow 1)) ∷ driveFrom (rowAt l (driveRow 2))
+    ∷ driveFrom (rowAt l (driveRow 3)) ∷ []
 
 unfoldable pub recordIn : List ℕ → Controller
 recordIn l =
@@ -303,38 +303,38 @@ recordIn l =
       drives = drivesIn l;
       fifo = fifoIn (rowAt l fifoRow) (rowAt l flowRow);
       bytes = gatheredIn (rowAt l commandRow) (rowAt l resultRow);
-      phase = phaseOf (flatIn l);
+      phase = phaseFrom (flatIn l);
     }
 
 -- house: bytes are a record where they are enough, the first is this layout's version, each flag is 0 or 1, and each
 -- case's number is one of its cases'; room, and the places that the case at hand does not use, are not looked at
-abbrev pub within : List ℕ → ℕ → ℕ → Bool
-within l k n = leb (byteAt l k) n
+abbrev pub atMost : List ℕ → ℕ → ℕ → Bool
+atMost l k n = leb (byteAt l k) n
 
 unfoldable pub registersOk : List ℕ → Bool
-registersOk row = within row eisAt 1 && within row efifoAt 1 && within row pollAt 1
+registersOk row = atMost row eisAt 1 && atMost row efifoAt 1 && atMost row pollAt 1
 
 unfoldable pub driveOk : List ℕ → Bool
-driveOk row = within row changedAt 1 && within row busyAt 1 && within row motionAt 2
+driveOk row = atMost row changedAt 1 && atMost row busyAt 1 && atMost row motionAt 2
 
 unfoldable pub flowOk : List ℕ → Bool
-flowOk row = within row asksAt 1 && within row tcAt 1
+flowOk row = atMost row asksAt 1 && atMost row tcAt 1
 
 unfoldable pub headOk : List ℕ → Bool
-headOk row = within row tagAt 5 && within row kindAt 13 && within row loudAt 1 && within row workAt 2
+headOk row = atMost row tagAt 5 && atMost row kindAt 13 && atMost row loudAt 1 && atMost row workAt 2
 
 unfoldable pub siteOk : List ℕ → Bool
-siteOk row = within row protectAt 1
+siteOk row = atMost row protectAt 1
 
 unfoldable pub taskOk : List ℕ → Bool
 taskOk row =
-    within row passAt 1 && within row deletedAt 1 && within row mtAt 1 && within row skAt 1
-    && within row taskOtherAt 1
+    atMost row passAt 1 && atMost row deletedAt 1 && atMost row mtAt 1 && atMost row skAt 1
+    && atMost row taskOtherAt 1
 
 unfoldable pub spotOk : List ℕ → Bool
 spotOk row =
-    within row stageAt 5 && within row formAt 3 && within row metAt 1 && within row wrongAt 1 && within row badAt 1
-    && within row brokenAt 1 && within row otherAt 1
+    atMost row stageAt 5 && atMost row formAt 3 && atMost row metAt 1 && atMost row wrongAt 1 && atMost row badAt 1
+    && atMost row brokenAt 1 && atMost row otherAt 1
 
 unfoldable pub drivesOk : List ℕ → Bool
 drivesOk l =
@@ -353,7 +353,7 @@ isRecord l = cond (leb recordSize (length l)) (eqb (byteAt l versionAt) version 
 
 -- the record written to the bytes lent: those behind it stay, and too few stay as they are
 unfoldable pub storedOf : Controller → List ℕ → List ℕ
-storedOf c l = cond (leb recordSize (length l)) (bytesOf c ++ drop recordSize l) l
+storedOf c l = cond (leb recordSize (length l)) (recordBytes c ++ drop recordSize l) l
 
 -- the FIFO alone written to its rows
 unfoldable pub fifoStored : Fifo → List ℕ → List ℕ

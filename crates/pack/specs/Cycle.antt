@@ -8,7 +8,7 @@ use lib.Dec.{eqb, leb}
 use lib.ListN.{length}
 use Rattle.chip.specs.Fifo.{capacityOf}
 use Rattle.fdc.specs.Registers.{gateIn, dmaIn}
-use Rattle.pack.specs.Bytes.{byteAt, flagAt, rowAt, within, recordSize}
+use Rattle.pack.specs.Bytes.{byteAt, flagAt, rowAt, atMost, recordSize}
 use Rattle.pack.specs.Places.{registersRow, driveRow, flowRow, commandRow, resultRow, phaseRow, taskRow, spotRow}
 use Rattle.pack.specs.Places.{dorAt, spec2At, efifoAt, fifothrAt, headAt, motionAt, countAt, asksAt, gatheredAt}
 use Rattle.pack.specs.Places.{leftAt, tagAt, workAt, passAt, spotCountAt}
@@ -19,18 +19,18 @@ askedIn registers flow head =
     gateIn (byteAt registers dorAt) && dmaIn (byteAt registers spec2At) && flagAt flow asksAt
     && eqb (byteAt head tagAt) 3 && eqb (byteAt head workAt) 1
 
--- 01 Refusals 4: FIFO count and FIFOTHR are within their bounds; and command bytes, result bytes and wait
+-- 01 Refusals 4: FIFO count and FIFOTHR are atMost their bounds; and command bytes, result bytes and wait
 unfoldable pub fifoBounded : List ℕ → List ℕ → Bool
 fifoBounded registers flow =
-    leb (byteAt flow countAt) (capacityOf (flagAt registers efifoAt)) && within registers fifothrAt 15
+    leb (byteAt flow countAt) (capacityOf (flagAt registers efifoAt)) && atMost registers fifothrAt 15
 
 unfoldable pub countsBounded : List ℕ → List ℕ → List ℕ → Bool
 countsBounded command results spot =
-    within command gatheredAt 9 && within results leftAt 7 && within spot spotCountAt 64
+    atMost command gatheredAt 9 && atMost results leftAt 7 && atMost spot spotCountAt 64
 
 -- and the drive's head; it does not move
 unfoldable pub stillIn : List ℕ → Bool
-stillIn row = within row headAt 81 && eqb (byteAt row motionAt) 0
+stillIn row = atMost row headAt 81 && eqb (byteAt row motionAt) 0
 
 unfoldable pub boundedIn : List ℕ → Bool
 boundedIn l =

@@ -34,11 +34,11 @@ noId = record { c = 0; h = 0; r = 0; n = 0 }
 abbrev pub noTransfer : Transfer
 noTransfer = record { pass = Read; deleted = false; mt = false; sk = false; eot = 0; dtl = 0 }
 
-abbrev pub taskOf : Transfer → Id → Task
-taskOf transfer id = record { transfer = transfer; id = id; other = false }
+abbrev pub taskWith : Transfer → Id → Task
+taskWith transfer id = record { transfer = transfer; id = id; other = false }
 
 abbrev pub noTask : Task
-noTask = taskOf noTransfer noId
+noTask = taskWith noTransfer noId
 
 abbrev pub noPlan : Plan
 noPlan = record { n = 0; sc = 0; fill = 0 }
@@ -144,7 +144,7 @@ busyFlat tag work site task plan spot =
 -- house: the jobs by number, before the first tick
 abbrev pub jobFlat : ℕ → ℕ → Job → Flat
 jobFlat drive side Identify = busyFlat 2 0 (placeOf drive side) noTask noPlan (spotOf 0 0 0 0 0)
-jobFlat drive side (Move transfer id) = busyFlat 2 1 (placeOf drive side) (taskOf transfer id) noPlan (spotOf 0 0 0 0 0)
+jobFlat drive side (Move transfer id) = busyFlat 2 1 (placeOf drive side) (taskWith transfer id) noPlan (spotOf 0 0 0 0 0)
 jobFlat drive side (Format plan) = busyFlat 2 2 (placeOf drive side) noTask plan (spotOf 0 0 0 0 0)
 
 -- house: and from it on
@@ -170,8 +170,8 @@ abbrev pub sectorOf : Spot → Sector
 sectorOf spot = record { slot = spot .slot; broken = spot .broken; other = spot .other }
 
 -- house: the same read back
-unfoldable pub stageOf : Spot → Stage
-stageOf spot =
+unfoldable pub stageFrom : Spot → Stage
+stageFrom spot =
     cond (eqb (spot .stage) 0) (Searching (lookOf spot))
     (cond (eqb (spot .stage) 1) (Turning (spot .slot))
     (cond (eqb (spot .stage) 2) (Reading (sectorOf spot) (spot .done))
@@ -179,24 +179,24 @@ stageOf spot =
     (cond (eqb (spot .stage) 4) (Awaiting (spot .slot) (spot .count))
     (Storing (spot .slot) (spot .done))))))
 
-unfoldable pub formOf : Spot → Form
-formOf spot =
+unfoldable pub formFrom : Spot → Form
+formFrom spot =
     cond (eqb (spot .form) 0) (form.Awaiting (spot .slot) (spot .count))
     (cond (eqb (spot .form) 1) (form.Addressing (spot .slot) (spot .count))
     (cond (eqb (spot .form) 2) (form.Filling (spot .slot) (spot .done))
     (form.Clearing (spot .slot))))
 
-unfoldable pub jobOf : ℕ → Task → Plan → Job
-jobOf work task plan =
+unfoldable pub jobFrom : ℕ → Task → Plan → Job
+jobFrom work task plan =
     cond (eqb work 0) Identify (cond (eqb work 1) (Move (task .transfer) (task .id)) (Format plan))
 
-unfoldable pub workOf : ℕ → Site → Task → Plan → Spot → Work
-workOf work site task plan spot =
+unfoldable pub workFrom : ℕ → Site → Task → Plan → Spot → Work
+workFrom work site task plan spot =
     cond (eqb work 0) (Identifying site (spot .slot) (spot .count))
-    (cond (eqb work 1) (Moving site task (stageOf spot)) (Formatting site plan (formOf spot)))
+    (cond (eqb work 1) (Moving site task (stageFrom spot)) (Formatting site plan (formFrom spot)))
 
-unfoldable pub phaseOf : Flat → Phase
-phaseOf flat =
+unfoldable pub phaseFrom : Flat → Phase
+phaseFrom flat =
     cond (eqb (flat .tag) 0) Idle
     (cond (eqb (flat .tag) 1) (Gathering (flat .entry))
     (cond (eqb (flat .tag) 2)
@@ -204,7 +204,7 @@ phaseOf flat =
     (record {
       drive = flat .site .drive;
       side = flat .site .side;
-      job = jobOf (flat .work) (flat .task) (flat .plan);
+      job = jobFrom (flat .work) (flat .task) (flat .plan);
     }))
-    (cond (eqb (flat .tag) 3) (Working (workOf (flat .work) (flat .site) (flat .task) (flat .plan) (flat .spot)))
+    (cond (eqb (flat .tag) 3) (Working (workFrom (flat .work) (flat .site) (flat .task) (flat .plan) (flat .spot)))
     (cond (eqb (flat .tag) 4) (Sensing (flat .unit)) (Answering (flat .loud))))))

@@ -16,7 +16,7 @@ use drive::Drive;
 use drive::Motion;
 ghost use mathlib.Core.Path.{_≡_};
 ghost use Prim.Native.Nat.{_<_};
-ghost use Rattle.pack.specs.Bytes.{courseOf, motionOf, driveBytes, driveIn};
+ghost use Rattle.pack.specs.Bytes.{courseOf, motionOf, driveBytes, driveFrom};
 
 // A motion with the fields of its cases side by side.
 pub struct Course {
@@ -100,7 +100,7 @@ pub fn drive_row(d: Drive) -> [u8; 16]
 }
 
 pub fn drive_in(row: [u8; 16]) -> Drive
-    ensures { λ r. ⌜ r ≡ driveIn row ⌝ }
+    ensures { λ r. ⌜ r ≡ driveFrom row ⌝ }
 {
     let wait = wide(row[WAIT_AT], row[WAIT_AT + 1]);
     let motion = motion_of(row[MOTION_AT], row[TARGET_AT], row[STEPS_AT], wait);

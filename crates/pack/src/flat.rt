@@ -22,7 +22,7 @@ ghost use Rattle.pack.specs.Flat.{
   placeOf,
   noTask,
   noPlan,
-  taskOf,
+  taskWith,
   spotOf,
   lookSpot,
   sectorSpot,
@@ -33,11 +33,11 @@ ghost use Rattle.pack.specs.Flat.{
   jobFlat,
   workFlat,
   phaseFlat,
-  stageOf,
-  formOf,
-  jobOf,
-  workOf,
-  phaseOf,
+  stageFrom,
+  formFrom,
+  jobFrom,
+  workFrom,
+  phaseFrom,
 };
 
 // A stage of a transfer, or of a Format.
@@ -82,7 +82,7 @@ fn place(drive: u8, side: u8) -> Site
 }
 
 fn task(transfer: Transfer, id: Id) -> Task
-    ensures { λ r. ⌜ r ≡ taskOf transfer id ⌝ }
+    ensures { λ r. ⌜ r ≡ taskWith transfer id ⌝ }
 {
     Task {
         transfer,
@@ -309,7 +309,7 @@ pub fn phase_flat(phase: Phase) -> Flat
 }
 
 fn stage_of(spot: Spot) -> Stage
-    ensures { λ r. ⌜ r ≡ stageOf spot ⌝ }
+    ensures { λ r. ⌜ r ≡ stageFrom spot ⌝ }
 {
     let look = Search {
         slot: spot.slot,
@@ -335,7 +335,7 @@ fn stage_of(spot: Spot) -> Stage
 }
 
 fn form_of(spot: Spot) -> Form
-    ensures { λ r. ⌜ r ≡ formOf spot ⌝ }
+    ensures { λ r. ⌜ r ≡ formFrom spot ⌝ }
 {
     let form = spot.form;
     match form {
@@ -347,7 +347,7 @@ fn form_of(spot: Spot) -> Form
 }
 
 fn job_of(work: u8, task: Task, plan: Plan) -> Job
-    ensures { λ r. ⌜ r ≡ jobOf work task plan ⌝ }
+    ensures { λ r. ⌜ r ≡ jobFrom work task plan ⌝ }
 {
     let transfer = task.transfer;
     let id = task.id;
@@ -359,7 +359,7 @@ fn job_of(work: u8, task: Task, plan: Plan) -> Job
 }
 
 fn work_of(work: u8, site: Site, task: Task, plan: Plan, spot: Spot) -> Work
-    ensures { λ r. ⌜ r ≡ workOf work site task plan spot ⌝ }
+    ensures { λ r. ⌜ r ≡ workFrom work site task plan spot ⌝ }
 {
     match work {
         0 => Work::Identifying(site, spot.slot, spot.count),
@@ -369,7 +369,7 @@ fn work_of(work: u8, site: Site, task: Task, plan: Plan, spot: Spot) -> Work
 }
 
 pub fn phase_of(flat: Flat) -> Phase
-    ensures { λ r. ⌜ r ≡ phaseOf flat ⌝ }
+    ensures { λ r. ⌜ r ≡ phaseFrom flat ⌝ }
 {
     let entry = flat.entry;
     let site = flat.site;

@@ -52,13 +52,13 @@ ghost use Rattle.pack.specs.Bytes.{
   fifoPut,
   gatheredPut,
   flatPut,
-  bytesOf,
+  recordBytes,
   storedOf,
   fifoStored,
   recordIn,
   isRecord,
 };
-ghost use Rattle.pack.specs.Back.{DrivesFit, Typed, Holds};
+ghost use Rattle.pack.specs.Back.{DrivesFit, Typed, HoldsRecord};
 
 fn registers_row(r: Registers) -> [u8; 16]
     ensures { λ row. ⌜ row ≡ registersBytes r ⌝ }
@@ -320,7 +320,7 @@ fn put_flat(s: &mut [u8], f: Flat)
 
 fn put_record(s: &mut [u8], c: Controller)
     requires { ⌜ recordSize ≤ length (now s) ⌝ }
-    ensures stored { λ _. ⌜ now (s .exit) ≡ bytesOf c ++ drop recordSize (now (s .entry)) ⌝ }
+    ensures stored { λ _. ⌜ now (s .exit) ≡ recordBytes c ++ drop recordSize (now (s .entry)) ⌝ }
     ensures fits { λ _. ⌜ Typed c ⌝ }
 {
     let registers = c.registers;
@@ -340,7 +340,7 @@ fn put_record(s: &mut [u8], c: Controller)
 // The record written to the bytes lent: those behind it stay, and too few stay as they are.
 pub fn store(s: &mut [u8], c: Controller)
     ensures bytes { λ _. ⌜ now (s .exit) ≡ storedOf c (now (s .entry)) ⌝ }
-    ensures back { λ _. ⌜ (recordSize ≤ length (now (s .entry)) → Holds (now (s .exit)) c) ⌝ }
+    ensures back { λ _. ⌜ (recordSize ≤ length (now (s .entry)) → HoldsRecord (now (s .exit)) c) ⌝ }
 {
     let enough = RECORD_SIZE <= s.len();
     if enough {
@@ -352,7 +352,7 @@ pub fn store(s: &mut [u8], c: Controller)
 pub fn store_fifo(s: &mut [u8], f: Fifo)
     ensures stored { λ _. ⌜ now (s .exit) ≡ fifoStored f (now (s .entry)) ⌝ }
     ensures back { λ _. ⌜ (isRecord (now (s .entry)) ≡ true
-        → Holds (now (s .exit)) (withFifo f (recordIn (now (s .entry))))) ⌝ }
+        → HoldsRecord (now (s .exit)) (withFifo f (recordIn (now (s .entry))))) ⌝ }
 {
     let enough = RECORD_SIZE <= s.len();
     if enough {

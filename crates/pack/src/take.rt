@@ -103,7 +103,7 @@ ghost use Rattle.pack.specs.Bytes.{
   flatOf,
   flatIn,
   siteIn,
-  taskIn,
+  taskFrom,
   planIn,
   spotIn,
   recordIn,
@@ -209,7 +209,7 @@ fn plan_in(row: [u8; 16]) -> Plan
 }
 
 fn task_in(row: [u8; 16]) -> Task
-    ensures { λ r. ⌜ r ≡ taskIn row ⌝ }
+    ensures { λ r. ⌜ r ≡ taskFrom row ⌝ }
 {
     let pass = pass_numbered(row[PASS_AT]);
     let transfer = Transfer {

@@ -14,7 +14,7 @@ use Rattle.fdc.specs.Ticks.{tickOf, imageAfter, ruledOf}
 use Rattle.fdc.specs.declared.answer.Answer.{Answer}
 use Rattle.fdc.specs.declared.answer.Reply.the-variants.{Done}
 use Rattle.fdc.specs.declared.record.Controller.{Controller}
-use Rattle.player.specs.Turn.{Turn, still, ticked, ticksFrom, ticksOf}
+use Rattle.player.specs.Turn.{Turn, still, turnTicked, turnTicksFrom, turnTicks}
 
 -- 01 Calls: a tick changes bytes, no length
 pub image-length : (k : ℕ) (a b : List ℕ) (c : Controller) (img : List ℕ) → length (imageAfter k a b c img) ≡ length img
@@ -32,17 +32,17 @@ pub one-of : (left : ℕ) (r next : Answer) (a b x y : List ℕ)
     → next ≡ tickOf a b (r .controller)
     → x ≡ imageAfter 0 a b (r .controller) a
     → y ≡ imageAfter 1 a b (r .controller) b
-    → ticksFrom (left - 1) (still next x y) ≡ ticksFrom left (still r a b)
-unfolding ticked ticksFrom
+    → turnTicksFrom (left - 1) (still next x y) ≡ turnTicksFrom left (still r a b)
+unfolding turnTicked turnTicksFrom
 one-of zero r next a b x y h p q s = absurd (omega arith)
 one-of (suc n) r next a b x y h p q s = let e : suc n - 1 ≡ n = omega arith in rw (e, p, q, s)
 
 -- none is left
 pub none-left : (left n : ℕ) (t : Turn) (r : Answer) (a b : List ℕ) (c : Controller)
     → left ≤ 0
-    → ticksFrom left t ≡ ticksFrom n (still r a b)
+    → turnTicksFrom left t ≡ turnTicksFrom n (still r a b)
     → r ≡ answerOf Done c
-    → t ≡ ticksOf n a b c
-unfolding ticksFrom
+    → t ≡ turnTicks n a b c
+unfolding turnTicksFrom
 none-left zero n t r a b c h e p = e ∙ rw p
 none-left (suc k) n t r a b c h e p = absurd (omega arith)

@@ -33,8 +33,8 @@ abbrev pub still : Answer → List ℕ → List ℕ → Turn
 still answer a b = record { answer = answer; first = a; second = b }
 
 -- one tick, handed the record and both images
-unfoldable pub ticked : Turn → Turn
-ticked t =
+unfoldable pub turnTicked : Turn → Turn
+turnTicked t =
     record {
       answer = tickOf (t .first) (t .second) (t .answer .controller);
       first = imageAfter 0 (t .first) (t .second) (t .answer .controller) (t .first);
@@ -42,23 +42,23 @@ ticked t =
     }
 
 -- n ticks, each handed what the one before left (house: `t N`)
-unfoldable pub ticksFrom : ℕ → Turn → Turn
-ticksFrom zero t = t
-ticksFrom (suc n) t = ticksFrom n (ticked t)
+unfoldable pub turnTicksFrom : ℕ → Turn → Turn
+turnTicksFrom zero t = t
+turnTicksFrom (suc n) t = turnTicksFrom n (turnTicked t)
 
 -- house: `t 0` is no tick: nothing is read, and the lines are as they stand
-abbrev pub ticksOf : ℕ → List ℕ → List ℕ → Controller → Turn
-ticksOf n a b c = ticksFrom n (still (answerOf Done c) a b)
+abbrev pub turnTicks : ℕ → List ℕ → List ℕ → Controller → Turn
+turnTicks n a b c = turnTicksFrom n (still (answerOf Done c) a b)
 
 -- house: the call of each line; one that says none leaves all as it is
-unfoldable pub calledOf : Line → List ℕ → List ℕ → Controller → Turn
-calledOf Nothing a b c = still (answerOf Done c) a b
-calledOf (Power head0 head1) a b c = still (powerOn head0 head1) a b
-calledOf (Read offset) a b c = still (readPort offset c) a b
-calledOf (Recorded offset byte) a b c = still (readPort offset c) a b
-calledOf (Write offset byte) a b c = still (writePort offset byte c) a b
-calledOf (Take tc) a b c = still (dmaRead tc c) a b
-calledOf (Give byte tc) a b c = still (dmaWrite byte tc c) a b
-calledOf (Change drive) a b c = still (noteChange drive c) a b
-calledOf (Ticks n) a b c = ticksOf n a b c
-calledOf (Malformed expected) a b c = still (answerOf Done c) a b
+unfoldable pub calledTurn : Line → List ℕ → List ℕ → Controller → Turn
+calledTurn Nothing a b c = still (answerOf Done c) a b
+calledTurn (Power head0 head1) a b c = still (powerOn head0 head1) a b
+calledTurn (Read offset) a b c = still (readPort offset c) a b
+calledTurn (Recorded offset byte) a b c = still (readPort offset c) a b
+calledTurn (Write offset byte) a b c = still (writePort offset byte c) a b
+calledTurn (Take tc) a b c = still (dmaRead tc c) a b
+calledTurn (Give byte tc) a b c = still (dmaWrite byte tc c) a b
+calledTurn (Change drive) a b c = still (noteChange drive c) a b
+calledTurn (Ticks n) a b c = turnTicks n a b c
+calledTurn (Malformed expected) a b c = still (answerOf Done c) a b

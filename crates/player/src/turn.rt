@@ -4,14 +4,14 @@ use fdc::answer::Reply;
 use fdc::record::Controller;
 use script::line::Line;
 ghost use mathlib.Core.Path.{_≡_};
-ghost use Rattle.player.specs.Turn.{ticksOf, calledOf};
+ghost use Rattle.player.specs.Turn.{turnTicks, calledTurn};
 
 // That many ticks, each handed the record and the images that the one before left. The answer is the last one's; where
 // there is none, nothing is read and the lines are as they stand.
 pub fn ticks(controller: Controller, a: &mut [u8], b: &mut [u8], n: u32) -> Answer
-    ensures answer { λ r. ⌜ r ≡ ticksOf n (now (a .entry)) (now (b .entry)) controller .answer ⌝ }
-    ensures first { λ _. ⌜ now (a .exit) ≡ ticksOf n (now (a .entry)) (now (b .entry)) controller .first ⌝ }
-    ensures second { λ _. ⌜ now (b .exit) ≡ ticksOf n (now (a .entry)) (now (b .entry)) controller .second ⌝ }
+    ensures answer { λ r. ⌜ r ≡ turnTicks n (now (a .entry)) (now (b .entry)) controller .answer ⌝ }
+    ensures first { λ _. ⌜ now (a .exit) ≡ turnTicks n (now (a .entry)) (now (b .entry)) controller .first ⌝ }
+    ensures second { λ _. ⌜ now (b .exit) ≡ turnTicks n (now (a .entry)) (now (b .entry)) controller .second ⌝ }
 {
     let mut answer = controller.answer(Reply::Done);
     let mut left = n;
@@ -24,9 +24,9 @@ pub fn ticks(controller: Controller, a: &mut [u8], b: &mut [u8], n: u32) -> Answ
 
 // A line that says no call changes nothing.
 pub fn called(controller: Controller, line: Line, a: &mut [u8], b: &mut [u8]) -> Answer
-    ensures answer { λ r. ⌜ r ≡ calledOf line (now (a .entry)) (now (b .entry)) controller .answer ⌝ }
-    ensures first { λ _. ⌜ now (a .exit) ≡ calledOf line (now (a .entry)) (now (b .entry)) controller .first ⌝ }
-    ensures second { λ _. ⌜ now (b .exit) ≡ calledOf line (now (a .entry)) (now (b .entry)) controller .second ⌝ }
+    ensures answer { λ r. ⌜ r ≡ calledTurn line (now (a .entry)) (now (b .entry)) controller .answer ⌝ }
+    ensures first { λ _. ⌜ now (a .exit) ≡ calledTurn line (now (a .entry)) (now (b .entry)) controller .first ⌝ }
+    ensures second { λ _. ⌜ now (b .exit) ≡ calledTurn line (now (a .entry)) (now (b .entry)) controller .second ⌝ }
 {
     match line {
         Line::Nothing => controller.answer(Reply::Done),

@@ -7,12 +7,12 @@ use mathlib.Core.List.{List, [], _∷_}
 use mathlib.Core.Path.{_≡_, refl}
 use Rattle.chip.specs.declared.codes.Entry.{Entry}
 use Rattle.chip.specs.declared.fifo.Fifo.{Fifo}
-use Rattle.chip.specs.Fifo.{emptied, Fits}
+use Rattle.chip.specs.Fifo.{emptied, FitsFifo}
 use Rattle.chip.proofs.CodeLaws.{entry-bytes-range}
 use Rattle.chip.proofs.FifoLaws.{fits-emptied, fits-taken, fits-given}
 use Rattle.chip.proofs.StepLaws.{step-most}
 use Rattle.drive.specs.declared.Drive.{Drive}
-use Rattle.drive.specs.Drive.{fresh}
+use Rattle.drive.specs.Drive.{freshDrive}
 use Rattle.drive.specs.Due.{Within}
 use Rattle.drive.proofs.DriveLaws.{within-fresh, within-reset, within-reported, within-sensed, within-noted, within-tick}
 use Rattle.sectors.specs.declared.work.Step.{Step}
@@ -117,7 +117,7 @@ entry-le c byte entry (further entry′ e) g = go (c .phase) e (g .phase)
 
 -- what `Good` says of all but the drives
 record Holds (r : Registers) (f : Fifo) (b : Bytes) (p : Phase) : Type 0 where
-  fifo : Fits (r .efifo) f
+  fifo : FitsFifo (r .efifo) f
   fifothr : r .fifothr ≤ 15
   left : b .left ≤ resultRoom
   phase : Suits p (b .gathered) f
@@ -132,7 +132,7 @@ module _ (call : Call) (c : Controller) (g : Good c) where
   told-empty : (command : List ℕ) → Told call c command → c .fifo ≡ emptied
   told-empty command t = empty (collects-unengaged c (t .byte) (t .entry) (t .by))
 
-  settled : (s : Step) (then : Then) → c .bytes .gathered ≡ 0 → Fits (c .registers .efifo) (s .fifo)
+  settled : (s : Step) (then : Then) → c .bytes .gathered ≡ 0 → FitsFifo (c .registers .efifo) (s .fifo)
       → s .fifo ≡ thenFifo (s .fifo) then → thenWait then ≤ 63
       → Holds (c .registers) (s .fifo) (bytesThen then (c .bytes)) (phaseThen then)
   settled s (Ends v) n f e w = record { fifo = f; fifothr = g .fifothr; left = omega arith; phase = (refl, e) }
@@ -232,7 +232,7 @@ good-after call c g =
 good-fresh : Good (freshOf 0 0)
 unfolding freshOf
 good-fresh =
-    let w : Within (fresh 0) = within-fresh 0 (omega arith) in
+    let w : Within (freshDrive 0) = within-fresh 0 (omega arith) in
     record {
       drives = four-of _ _ _ _ w w w w;
       fifo = fits-emptied true;

@@ -11,7 +11,7 @@ use Rattle.chip.specs.Stepping.{stepTicks}
 use Rattle.drive.specs.declared.Drive.{Drive}
 use Rattle.drive.specs.declared.Motion.{Motion}
 use Rattle.drive.specs.Due.{Goes}
-use Rattle.drive.specs.Step.{tickOf as tickDrive}
+use Rattle.drive.specs.Step.{tickDrive}
 use Rattle.sectors.specs.declared.work.Then.{Then}
 use Rattle.sectors.specs.declared.work.Then.the-variants.{Ends, Works}
 use Rattle.fdc.specs.declared.answer.Reply.{Reply}
@@ -25,7 +25,7 @@ use Rattle.fdc.specs.Answer.{answerOf}
 use Rattle.fdc.specs.Commands.{answeredOf, saidOf}
 use Rattle.fdc.specs.Record.{driveAt, withDrives, withFifo, withPhase, validOf}
 use Rattle.fdc.specs.Registers.{heldIn, anyBusy}
-use Rattle.fdc.specs.Ticks.{seenOf, presentIn, tickAll, steppedOf, sensedAt, stillOf, settledOf, decidedOf, startOf, workOf, decideIn, decideOf, ruledOf, tickOf}
+use Rattle.fdc.specs.Ticks.{seenOf, presentIn, tickAll, steppedOf, sensedAt, stillOf, settledOf, decidedOf, startTick, workTick, decideIn, decideOf, ruledOf, tickOf}
 use Rattle.reached.specs.Good.{Good}
 use Rattle.reached.specs.Moves.{Calm, AllCalm, tickOne, tickCount, Awake, Same, OnTime}
 use Rattle.reached.specs.Runs.{Call, powers, reads, writes, takes, gives, ticks, notes, answerTo, after, runCalls}
@@ -111,7 +111,7 @@ settled-drives (Ends verdict) c fifo = refl
 settled-drives (Works work) c fifo = refl
 
 pub decide-in-drives : (p : Phase) (a b : List ℕ) (c : Controller) → decideIn p a b c .controller .drives ≡ c .drives
-unfolding decideIn stillOf startOf workOf decidedOf sensedAt saidOf answeredOf
+unfolding decideIn stillOf startTick workTick decidedOf sensedAt saidOf answeredOf
 decide-in-drives Idle a b c = refl
 decide-in-drives (Gathering entry) a b c = refl
 decide-in-drives (Starting order) a b c = settled-drives _ c _

@@ -8,7 +8,7 @@ use lib.Dec.{eqb}
 use Rattle.image.proofs.TestLaws.{by-test}
 use Rattle.drive.specs.declared.Drive.{Drive}
 use Rattle.drive.specs.Drive.{reportedOf}
-use Rattle.drive.specs.Drive.{resetOf as resetDrive}
+use Rattle.drive.specs.Drive.{resetDrive}
 use Rattle.fdc.specs.declared.record.Controller.{Controller}
 use Rattle.fdc.specs.Record.{driveAt, withDrives, withRegisters}
 use Rattle.fdc.specs.Registers.{heldIn}

@@ -20,7 +20,7 @@ use Rattle.chip.proofs.StepLaws.{step-most}
 use Rattle.drive.specs.declared.Drive.{Drive}
 use Rattle.drive.specs.declared.Motion.{Motion}
 use Rattle.drive.specs.declared.Motion.the-variants.{Still, Seeking, Recalibrating}
-use Rattle.drive.specs.Drive.{distance, recalibrateSteps, firstWait, notedOf, accepted, waitOf}
+use Rattle.drive.specs.Drive.{distance, recalibrateSteps, firstWait, notedOf, accepted, countdownOf}
 use Rattle.engine.specs.declared.flow.Flow.{Flow}
 use Rattle.engine.specs.declared.flow.Flow.the-variants.{Quiet, ToHost, FromHost}
 use Rattle.sectors.specs.declared.order.Order.{Order}
@@ -42,13 +42,13 @@ use Rattle.fdc.specs.declared.record.Phase.the-variants.{Idle, Gathering, Start
 use Rattle.fdc.specs.declared.ticks.Decision.{Decision}
 use Rattle.fdc.specs.Answer.{answerOf}
 use Rattle.fdc.specs.Calls.{portOf, readReg, writeReg, powerOn, readPort, writePort, dmaRead, dmaWrite, noteChange}
-use Rattle.fdc.specs.Commands.{answeredOf, saidOf, saidTwo, idledOf, lowest, specifyOf, configureOf, sensingOf, reporterOf, sensedOf, ticksOf, soughtOf, recalibratedOf, startedOf, ranOf, heedsOf, runOf, gatheredOf, goesOn, begunOf}
+use Rattle.fdc.specs.Commands.{answeredOf, saidOf, saidTwo, idledOf, lowest, specifyOf, configureOf, sensingOf, reporterOf, sensedOf, stepTime, soughtOf, recalibratedOf, startedOf, ranOf, heedsOf, runOf, gatheredOf, goesOn, begunOf}
 use Rattle.fdc.specs.Data.{shifted, resultTaken, readIn, readFifo, offeredOf, writeFifo, phaseToHost, phaseFromHost, dmaReadOf, dmaWriteOf}
 use Rattle.fdc.specs.Record.{resultRoom, freshOf, noBytes, driveAt, withRegisters, withDrives, withFifo, withBytes, withPhase, withDrive, validOf}
 use Rattle.fdc.specs.Registers.{heldIn, gateIn, dmaIn, bit, busyBits, flowStatus, phaseStatus, msrOf, flowAsks, phaseAsks, drqOf, anyBusy}
 use Rattle.fdc.specs.Reset.{resetAll, resetOf, reportAll, releasedBy, releasedOf, withDor, withTdr, withRate, wroteDor, wroteDsr}
-use Rattle.chip.specs.Fifo.{Fits}
-use Rattle.fdc.specs.Ticks.{seenOf, tickAll, steppedOf, sensedAt, stillOf, settledOf, decidedOf, startOf, workOf, decideIn, decideOf, ruledOf, tickOf}
+use Rattle.chip.specs.Fifo.{FitsFifo}
+use Rattle.fdc.specs.Ticks.{seenOf, tickAll, steppedOf, sensedAt, stillOf, settledOf, decidedOf, startTick, workTick, decideIn, decideOf, ruledOf, tickOf}
 use Rattle.fdc.proofs.BeginLaws.{one-more-le}
 use Rattle.fdc.proofs.DmaLaws.{dma-read-is, dma-write-is}
 use Rattle.fdc.proofs.PadLaws.{length-shifted}
@@ -232,7 +232,7 @@ module _ (call : Call) (c : Controller) (p : Phase) where
   drives-released e = each _ _ _ _ (released _ e) (released _ e) (released _ e) (released _ e)
 
   drives-ticked : (a b : List ℕ) → call ≡ ticks a b → heldIn (c .registers .dor) ≡ false
-      → (m0 m1 : Bool) → Drives (tickAll (c .drives) m0 m1 (ticksOf c))
+      → (m0 m1 : Bool) → Drives (tickAll (c .drives) m0 m1 (stepTime c))
   unfolding tickAll
   drives-ticked a b q f m0 m1 =
       each _ _ _ _ (ticked a b q f m0) (ticked a b q f m1) (ticked a b q f false) (ticked a b q f false)
@@ -298,7 +298,7 @@ module _ (call : Call) (c : Controller) (b : Bytes) (t : Told call c (b .command
   started order o f = leaves call c _ _ refl (starts (b .command) t f order o)
 
   -- 01 Commands Seek, Recalibrate: 80 for a busy drive (house)
-  set-moving : (k : ℕ) (motion : Motion) → waitOf motion ≤ 1000
+  set-moving : (k : ℕ) (motion : Motion) → countdownOf motion ≤ 1000
       → Left
       (cond (driveAt k (c .drives) .busy) (saidOf 0x80 (withBytes b c))
       (idledOf (withDrive k (accepted motion (driveAt k (c .drives))) (withBytes b c))))
@@ -312,16 +312,16 @@ module _ (call : Call) (c : Controller) (b : Bytes) (t : Told call c (b .command
       let k : ℕ = getD (b .command) 1 0 % 4 in
       let target : ℕ = getD (b .command) 2 0 in
       let n : ℕ = distance (driveAt k (c .drives) .pcn) target in
-      set-moving k (Seeking target n (firstWait n (ticksOf c)))
-      (first-wait-le n (ticksOf c) (step-most (c .registers .spec1 / 16)))
+      set-moving k (Seeking target n (firstWait n (stepTime c)))
+      (first-wait-le n (stepTime c) (step-most (c .registers .spec1 / 16)))
 
   recalibrated : Left (recalibratedOf (withBytes b c))
   unfolding recalibratedOf withBytes
   recalibrated =
       let k : ℕ = getD (b .command) 1 0 % 4 in
       let n : ℕ = recalibrateSteps k (driveAt k (c .drives) .head) in
-      set-moving k (Recalibrating n (firstWait n (ticksOf c)))
-      (first-wait-le n (ticksOf c) (step-most (c .registers .spec1 / 16)))
+      set-moving k (Recalibrating n (firstWait n (stepTime c)))
+      (first-wait-le n (stepTime c) (step-most (c .registers .spec1 / 16)))
 
   interrupted : Left (sensedOf (withBytes b c))
   unfolding sensedOf saidTwo answeredOf withDrive withDrives withBytes answerOf
@@ -562,7 +562,7 @@ module _ (a b : List ℕ) (c : Controller) where
 
   decided-in : (p : Phase) → c .phase ≡ p → heldIn (c .registers .dor) ≡ false
       → Ticked (decideIn p a b (steppedOf a b c) .controller)
-  unfolding decideIn stillOf startOf workOf decidedOf sensedAt saidOf answeredOf steppedOf tickAll withDrives answerOf
+  unfolding decideIn stillOf startTick workTick decidedOf sensedAt saidOf answeredOf steppedOf tickAll withDrives answerOf
   decided-in Idle q f = only-stepped f
   decided-in (Gathering entry) q f = only-stepped f
   decided-in (Starting order) q f = settled f _ (begins order _ q)
@@ -642,7 +642,7 @@ rule-of (notes drive) c =
 -- what the engine's step keeps to
 pub acts-kept : (a b : List ℕ) (c : Controller) (s : Step) → Acts a b c s
     → (thenWait (s .then) ≤ 63) × (s .fifo ≡ thenFifo (s .fifo) (s .then))
-    × (Fits (c .registers .efifo) (c .fifo) → Fits (c .registers .efifo) (s .fifo))
+    × (FitsFifo (c .registers .efifo) (c .fifo) → FitsFifo (c .registers .efifo) (s .fifo))
 acts-kept a b c s (begins order head e) =
     let k = begin-kept order (seenOf (c .registers .dor) (order .drive) (pickOf (order .drive) a b)) head (c .fifo)
     (c .registers .efifo) in

@@ -18,9 +18,9 @@ use Rattle.chip.specs.Fifo.{emptied, handedOf, takenOf, givenOf}
 use Rattle.drive.specs.declared.Drive.{Drive}
 use Rattle.drive.specs.declared.Motion.{Motion}
 use Rattle.drive.specs.declared.Motion.the-variants.{Still}
-use Rattle.drive.specs.Drive.{fresh, reportedOf, sensedOf, notedOf, accepted, waitOf}
-use Rattle.drive.specs.Drive.{resetOf as resetDrive}
-use Rattle.drive.specs.Step.{tickOf as tickDrive}
+use Rattle.drive.specs.Drive.{freshDrive, reportedOf, sensedDrive, notedOf, accepted, countdownOf}
+use Rattle.drive.specs.Drive.{resetDrive}
+use Rattle.drive.specs.Step.{tickDrive}
 use Rattle.sectors.specs.declared.order.Order.{Order}
 use Rattle.sectors.specs.declared.order.Pass.{Pass}
 use Rattle.sectors.specs.declared.work.Step.{Step}
@@ -38,7 +38,7 @@ use Rattle.fdc.specs.declared.record.Controller.{Controller}
 use Rattle.fdc.specs.declared.record.Phase.{Phase}
 use Rattle.fdc.specs.declared.record.Phase.the-variants.{Idle, Gathering, Starting, Working, Sensing, Answering}
 use Rattle.fdc.specs.declared.record.Registers.{Registers}
-use Rattle.fdc.specs.Commands.{specifiedOf, configuredOf, moveOrder, formatOrder, identifyOrder, ticksOf}
+use Rattle.fdc.specs.Commands.{specifiedOf, configuredOf, moveOrder, formatOrder, identifyOrder, stepTime}
 use Rattle.fdc.specs.Data.{phaseHears}
 use Rattle.fdc.specs.Record.{resultRoom, padded, noBytes, driveAt}
 use Rattle.fdc.specs.Registers.{heldIn, anyBusy}
@@ -64,17 +64,17 @@ pub data Restarts (call : Call) : Type 0 where
 pub data DriveRule (call : Call) (c : Controller) (p : Phase) (k : ℕ) : Drive → Type 0 where
   kept : DriveRule call c p k (driveAt k (c .drives))
   noted : DriveRule call c p k (notedOf (driveAt k (c .drives)))
-  powered : (head : ℕ) → head ≤ 81 → (head0 head1 : ℕ) → call ≡ powers head0 head1 → DriveRule call c p k (fresh head)
+  powered : (head : ℕ) → head ≤ 81 → (head0 head1 : ℕ) → call ≡ powers head0 head1 → DriveRule call c p k (freshDrive head)
   reset : Restarts call → DriveRule call c p k (resetDrive (driveAt k (c .drives)))
   restarted : (report : ℕ) → Restarts call → DriveRule call c p k (reportedOf report (resetDrive (driveAt k (c .drives))))
   released : (report : ℕ) → heldIn (c .registers .dor) ≡ true
       → DriveRule call c p k (reportedOf report (driveAt k (c .drives)))
   sensed : heldIn (c .registers .dor) ≡ false → (driveAt k (c .drives) .report ≡ 0 → ⊥)
-      → DriveRule call c p k (sensedOf (driveAt k (c .drives)))
+      → DriveRule call c p k (sensedDrive (driveAt k (c .drives)))
   set-off : heldIn (c .registers .dor) ≡ false → p ≡ Idle → driveAt k (c .drives) .busy ≡ false
-      → (motion : Motion) → waitOf motion ≤ 1000 → DriveRule call c p k (accepted motion (driveAt k (c .drives)))
+      → (motion : Motion) → countdownOf motion ≤ 1000 → DriveRule call c p k (accepted motion (driveAt k (c .drives)))
   ticked : (a b : List ℕ) → call ≡ ticks a b → heldIn (c .registers .dor) ≡ false → (mounted : Bool)
-      → DriveRule call c p k (tickDrive k mounted (ticksOf c) (driveAt k (c .drives)))
+      → DriveRule call c p k (tickDrive k mounted (stepTime c) (driveAt k (c .drives)))
 
 -- what a write to DOR, TDR, DSR or CCR that is no reset leaves; it may release one
 pub record SameSettings (r n : Registers) : Type 0 where

@@ -12,10 +12,10 @@ use Rattle.chip.proofs.StepLaws.{step-least}
 use Rattle.drive.specs.declared.Drive.{Drive}
 use Rattle.drive.specs.declared.Motion.the-variants.{Seeking, Recalibrating}
 use Rattle.drive.specs.Drive.{distance, recalibrateSteps, seekOf, recalibrateOf}
-use Rattle.drive.specs.Due.{headAfter, overAfter, Seeks, Recalibrates, Over, recalibrateReport}
+use Rattle.drive.specs.Due.{headAfter, overAfter, SeekDue, Recalibrates, MotionOver, recalibrateReport}
 use Rattle.drive.proofs.StepLaws.{seek-begins, seek-goes-on, seek-ends, recalibrate-begins, recalibrate-goes-on, recalibrate-ends}
 use Rattle.fdc.specs.declared.record.Controller.{Controller}
-use Rattle.fdc.specs.Commands.{idledOf, commandByte, ticksOf, soughtOf, recalibratedOf}
+use Rattle.fdc.specs.Commands.{idledOf, commandByte, stepTime, soughtOf, recalibratedOf}
 use Rattle.reached.specs.Moves.{Awake, OnTime}
 use Rattle.fdc.specs.Record.{driveAt, withDrives, withDrive}
 use Rattle.fdc.specs.Registers.{heldIn}
@@ -27,13 +27,13 @@ use Rattle.reached.proofs.MoveLaws.{goes-same, on-time}
 module _ (c : Controller) (long : length (c .drives) ≡ 4) where
   pub seek-accepted : driveAt (commandByte 1 c % 4) (c .drives) .busy ≡ false
       → driveAt (commandByte 1 c % 4) (soughtOf c .drives)
-      ≡ seekOf (commandByte 2 c) (ticksOf c) (driveAt (commandByte 1 c % 4) (c .drives))
+      ≡ seekOf (commandByte 2 c) (stepTime c) (driveAt (commandByte 1 c % 4) (c .drives))
   unfolding soughtOf idledOf withDrive withDrives
   seek-accepted f = simp f (getD-set-same (c .drives) (commandByte 1 c % 4) _ _ (omega arith))
 
   pub recalibrate-accepted : driveAt (commandByte 1 c % 4) (c .drives) .busy ≡ false
       → driveAt (commandByte 1 c % 4) (recalibratedOf c .drives)
-      ≡ recalibrateOf (commandByte 1 c % 4) (ticksOf c) (driveAt (commandByte 1 c % 4) (c .drives))
+      ≡ recalibrateOf (commandByte 1 c % 4) (stepTime c) (driveAt (commandByte 1 c % 4) (c .drives))
   unfolding recalibratedOf idledOf withDrive withDrives
   recalibrate-accepted f = simp f (getD-set-same (c .drives) (commandByte 1 c % 4) _ _ (omega arith))
 
@@ -48,15 +48,15 @@ module _ (k : ℕ) (low : k < 4) (c : Controller) (reached : Reached c) (byte : 
 
   -- a Seek is over at exactly n x T ticks, n = |NCN - PCN| (1 for none): PCN is NCN, the report 20 + drive, the
   -- head n steps on
-  pub seek-on-time : (target : ℕ) → driveAt k (c .drives) ≡ seekOf target (ticksOf c) d
+  pub seek-on-time : (target : ℕ) → driveAt k (c .drives) ≡ seekOf target (stepTime c) d
       → OnTime
-      (Seeks k (ticksOf c) (d .pcn) target (headAfter k (ltb (d .pcn) target) (distance (d .pcn) target) (d .head)))
-      (Over target (0x20 + k % 4) (headAfter k (ltb (d .pcn) target) (distance (d .pcn) target) (d .head)))
-      k (overAfter (distance (d .pcn) target) (ticksOf c)) c
+      (SeekDue k (stepTime c) (d .pcn) target (headAfter k (ltb (d .pcn) target) (distance (d .pcn) target) (d .head)))
+      (MotionOver target (0x20 + k % 4) (headAfter k (ltb (d .pcn) target) (distance (d .pcn) target) (d .head)))
+      k (overAfter (distance (d .pcn) target) (stepTime c)) c
   seek-on-time target e =
       let T : ℕ = stepTicks (c .registers .spec1 / 16) in
       let final : ℕ = headAfter k (ltb (d .pcn) target) (distance (d .pcn) target) (d .head) in
-      on-time k T low (Seeks k T (d .pcn) target final) (Over target (0x20 + k % 4) final)
+      on-time k T low (SeekDue k T (d .pcn) target final) (MotionOver target (0x20 + k % 4) final)
       (λ due x y s g. goes-same (Seeking target) (ltb (d .pcn) target) k T (d .pcn) final due x y s g)
       (λ due x g. g .busy)
       (λ due x g. g .quiet)
@@ -67,16 +67,16 @@ module _ (k : ℕ) (low : k < 4) (c : Controller) (reached : Reached c) (byte : 
 
   -- a Recalibrate likewise: out until the head is at 0, at most 79 times; PCN 0, the report by where the head then
   -- stands
-  pub recalibrate-on-time : driveAt k (c .drives) ≡ recalibrateOf k (ticksOf c) d
+  pub recalibrate-on-time : driveAt k (c .drives) ≡ recalibrateOf k (stepTime c) d
       → OnTime
-      (Recalibrates k (ticksOf c) (d .pcn) (headAfter k false (recalibrateSteps k (d .head)) (d .head)))
-      (Over 0 (recalibrateReport k (headAfter k false (recalibrateSteps k (d .head)) (d .head)))
+      (Recalibrates k (stepTime c) (d .pcn) (headAfter k false (recalibrateSteps k (d .head)) (d .head)))
+      (MotionOver 0 (recalibrateReport k (headAfter k false (recalibrateSteps k (d .head)) (d .head)))
       (headAfter k false (recalibrateSteps k (d .head)) (d .head)))
-      k (overAfter (recalibrateSteps k (d .head)) (ticksOf c)) c
+      k (overAfter (recalibrateSteps k (d .head)) (stepTime c)) c
   recalibrate-on-time e =
       let T : ℕ = stepTicks (c .registers .spec1 / 16) in
       let final : ℕ = headAfter k false (recalibrateSteps k (d .head)) (d .head) in
-      on-time k T low (Recalibrates k T (d .pcn) final) (Over 0 (recalibrateReport k final) final)
+      on-time k T low (Recalibrates k T (d .pcn) final) (MotionOver 0 (recalibrateReport k final) final)
       (λ due x y s g. goes-same Recalibrating false k T (d .pcn) final due x y s g)
       (λ due x g. g .busy)
       (λ due x g. g .quiet)

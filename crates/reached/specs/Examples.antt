@@ -1,5 +1,5 @@
 -- 01 Example 8, 01 Example 9, and document 01's port log, as runs of calls on the definitions. The proofs are in
--- proofs/Examples.antt.
+-- proofs/FdcExamples.antt.
 -- Assumes nothing.
 use Prim.Native.Nat.{ℕ}
 use mathlib.Core.Bool.{Bool, true, false}
@@ -18,12 +18,12 @@ pub record Line : Type 0 where
   pub int : Bool
   pub drq : Bool
 
-abbrev pub lineOf : Answer → Line
-lineOf a = record { refusal = numberIn (a .reply); value = valueOf (a .reply); int = a .int; drq = a .drq }
+abbrev pub lineShown : Answer → Line
+lineShown a = record { refusal = numberIn (a .reply); value = valueOf (a .reply); int = a .int; drq = a .drq }
 
 abbrev pub logOf : List Call → Controller → List Line
 logOf [] c = []
-logOf (call ∷ calls) c = lineOf (answerTo call c) ∷ logOf calls (after call c)
+logOf (call ∷ calls) c = lineShown (answerTo call c) ∷ logOf calls (after call c)
 
 -- heads at 0
 abbrev pub start : Controller
@@ -47,7 +47,7 @@ readied dor = writes 2 dor ∷ command (0x13 ∷ 0x00 ∷ 0x20 ∷ 0x00 ∷ [])
 abbrev pub bare : Call
 bare = ticks [] []
 
-pub record Examples : Type 0 where
+pub record FdcExamples : Type 0 where
   -- 01 Checked examples: the port log
   pub port-log :
       logOf (writes 2 0x0C ∷ reads 4 ∷ writes 5 0x10 ∷ reads 4 ∷ reads 5 ∷ reads 4 ∷ reads 0 ∷ []) start

@@ -6,7 +6,7 @@ use mathlib.Core.List.{List}
 use mathlib.Core.Path.{_≡_}
 use lib.ListN.{length}
 use Rattle.chip.specs.declared.fifo.Fifo.{Fifo}
-use Rattle.chip.specs.Fifo.{emptied, Fits}
+use Rattle.chip.specs.Fifo.{emptied, FitsFifo}
 use Rattle.drive.specs.declared.Drive.{Drive}
 use Rattle.drive.specs.Due.{Within}
 use Rattle.engine.specs.Step.{waitOf}
@@ -31,7 +31,7 @@ Suits (Answering loud) n f = (n ≡ 0) × (f ≡ emptied)
 
 pub record Good (c : Controller) : Type 0 where
   pub drives : Four (c .drives)
-  pub fifo : Fits (c .registers .efifo) (c .fifo)
+  pub fifo : FitsFifo (c .registers .efifo) (c .fifo)
   pub fifothr : c .registers .fifothr ≤ 15
   pub left : c .bytes .left ≤ resultRoom
   pub phase : Suits (c .phase) (c .bytes .gathered) (c .fifo)

@@ -29,8 +29,8 @@ abbrev pub given : List ℕ → List ℕ → List ℕ → Scene
 given bytes host img =
     record { box = runCalls (readied 0x1C ++ command bytes) start; img = img; host = host; got = [] }
 
-abbrev pub ticked : Scene → Scene
-ticked s =
+abbrev pub tickedScene : Scene → Scene
+tickedScene s =
     record {
       box = tickOf (s .img) [] (s .box) .controller;
       img = imageAfter 0 (s .img) [] (s .box) (s .img);
@@ -40,11 +40,11 @@ ticked s =
 
 abbrev pub ticksOn : ℕ → Scene → Scene
 ticksOn zero s = s
-ticksOn (suc n) s = ticksOn n (ticked s)
+ticksOn (suc n) s = ticksOn n (tickedScene s)
 
 -- the host takes a byte, with TC or without
-abbrev pub taken : Bool → Scene → Scene
-taken tc s =
+abbrev pub takenScene : Bool → Scene → Scene
+takenScene tc s =
     record {
       box = dmaRead tc (s .box) .controller;
       img = s .img;
@@ -52,10 +52,10 @@ taken tc s =
       got = valueOf (dmaRead tc (s .box) .reply) ∷ s .got;
     }
 
--- n ticks, a byte taken after each; TC with the last of them, or with none
+-- n ticks, a byte takenScene after each; TC with the last of them, or with none
 abbrev pub readOut : Bool → ℕ → Scene → Scene
 readOut tc zero s = s
-readOut tc (suc n) s = readOut tc n (taken (tc && eqb n 0) (ticked s))
+readOut tc (suc n) s = readOut tc n (takenScene (tc && eqb n 0) (tickedScene s))
 
 -- the host gives its next byte where DRQ is on
 abbrev pub offered : Bool → List ℕ → Scene → Scene
@@ -67,7 +67,7 @@ offered false host s = s
 -- n ticks, served so after each
 abbrev pub served : ℕ → Scene → Scene
 served zero s = s
-served (suc n) s = served n (offered (drqOf (ticked s .box)) (s .host) (ticked s))
+served (suc n) s = served n (offered (drqOf (tickedScene s .box)) (s .host) (tickedScene s))
 
 -- one cylinder of two sides with a sector each: 02, its length 263 in two bytes, cylinder, side
 abbrev pub side : ℕ → List ℕ
@@ -85,8 +85,8 @@ readBoth = given (0xC6 ∷ 0 ∷ 0 ∷ 0 ∷ 1 ∷ 1 ∷ 1 ∷ 0x1B ∷ 0xFF ∷
 
 -- the tests and the look that matches, 256 bytes, the look that finds the FIFO empty and turns, the turn's tests,
 -- its look
-abbrev pub turned : Scene
-turned = ticksOn 3 (readOut false 256 (ticksOn 2 readBoth))
+abbrev pub turnedScene : Scene
+turnedScene = ticksOn 3 (readOut false 256 (ticksOn 2 readBoth))
 
 -- the tests, the look, then the broken mark and 99 bytes: 100 stores, and the power goes
 abbrev pub cut : Scene
@@ -110,11 +110,11 @@ pub record ReadWhole : Type 0 where
 -- a two-sided MT read
 pub record TurnedWhole : Type 0 where
   -- the first and last byte of each side, then side 1 in ST0, and cylinder 1
-  pub both-side-0-first : getD (turned .got) 255 0 ≡ 0x50
-  pub both-side-0-last : getD (turned .got) 0 0 ≡ 0x50
-  pub both-side-1-first : getD (readOut true 256 turned .got) 255 0 ≡ 0x51
-  pub both-side-1-last : getD (readOut true 256 turned .got) 0 0 ≡ 0x51
-  pub both-result : ticksOn 1 (readOut true 256 turned) .box .bytes .results ≡ 0x04 ∷ 0x00 ∷ 0x00 ∷ 1 ∷ 0 ∷ 1 ∷ 1 ∷ []
+  pub both-side-0-first : getD (turnedScene .got) 255 0 ≡ 0x50
+  pub both-side-0-last : getD (turnedScene .got) 0 0 ≡ 0x50
+  pub both-side-1-first : getD (readOut true 256 turnedScene .got) 255 0 ≡ 0x51
+  pub both-side-1-last : getD (readOut true 256 turnedScene .got) 0 0 ≡ 0x51
+  pub both-result : ticksOn 1 (readOut true 256 turnedScene) .box .bytes .results ≡ 0x04 ∷ 0x00 ∷ 0x00 ∷ 1 ∷ 0 ∷ 1 ∷ 1 ∷ []
 
 -- a write cut after 100 stores
 pub record CutWhole : Type 0 where

@@ -18,7 +18,7 @@ use Rattle.answers.proofs.AcceptLaws.{accepts, busy-rule, settings, waits-ready
 use Rattle.answers.proofs.ProtectedLaws.{protected-stays}
 use Rattle.answers.proofs.ReadsOutLaws.{reads-out}
 use Rattle.runs.specs.AnswerRuns.{waits, seeks, failed, versioned, sensed, protected, asked, AnswerRuns}
-use Rattle.runs.specs.RowRuns.{given, move, on}
+use Rattle.runs.specs.RowRuns.{rowGiven, move, on}
 use Rattle.runs.proofs.Open.{allOpen}
 use Rattle.runs.proofs.RowRuns.{real-box}
 use Rattle.runs.proofs.Tests.{all-of-tests}
@@ -67,23 +67,23 @@ answer-runs = record {
   refuses-seek = busy-rule seeks .seek 0x01 0x07 (seeks-on .0) refl;
   free = refl;
   takes-seek = accepts seeks .seek 0x00 0x03 (seeks-on .0) refl;
-  seven = reads-out .reached failed (real-box 0 (given (move 0x46 1 2) (on 1 [])) refl) refl;
+  seven = reads-out .reached failed (real-box 0 (rowGiven (move 0x46 1 2) (on 1 [])) refl) refl;
   one = reads-out .reached-any versioned (real-box 0 (readied 0x0C ++ command (0x10 ∷ [])) refl) refl .0;
   two = reads-out .reached-any sensed (real-box 0 (readied 0x0C ++ command (0x08 ∷ [])) refl) refl .0;
   gate = refl;
   pending = of-drive 0 (omega arith) (λ e. omega (arith, e));
   seven-out =
       reads-out .seven failed
-      (reads-out .reached failed (real-box 0 (given (move 0x46 1 2) (on 1 [])) refl) refl);
+      (reads-out .reached failed (real-box 0 (rowGiven (move 0x46 1 2) (on 1 [])) refl) refl);
   two-out =
       reads-out .any sensed false 2 (omega arith)
       (reads-out .reached-any sensed (real-box 0 (readied 0x0C ++ command (0x08 ∷ [])) refl) refl .0);
-  stores-not = λ e. false≢true (ap (λ (p : Pass). First.writes p) e);
+  stores-not = λ e. false≢true (ap (λ (p : Pass). First.passWrites p) e);
   suited = refl;
   stores = refl;
   locked = (_, (refl, refl));
   handed = (refl, (refl, (refl, tt)));
   stays =
-      protected-stays .list asked (real-box 0 (given (move 0x45 1 2) []) refl) 0 protected (_, (refl, refl))
+      protected-stays .list asked (real-box 0 (rowGiven (move 0x45 1 2) []) refl) 0 protected (_, (refl, refl))
       (on 3 protected) (all-of-tests (on 3 protected) refl) (refl, (refl, (refl, tt)));
 }

@@ -26,7 +26,7 @@ use Rattle.runs.specs.CutExamples.{
 }
 use Rattle.runs.proofs.Open.{allOpen}
 use Rattle.runs.proofs.Tests.{allWork, work-its}
-use Rattle.demands.specs.History.{History, fresh, historyOf}
+use Rattle.demands.specs.History.{History, noHistory, historyOf}
 use Rattle.demands.specs.PowerCut.{Writes, LeftBy, headOf}
 use Rattle.demands.specs.Work.{Real, imageLeft, Alone}
 use Rattle.demands.proofs.PowerCutLaws.{power-cut}
@@ -58,7 +58,7 @@ record Cut : Type 0 where
   history : History
 
 abbrev cutBy : List Call → Controller → Cut
-cutBy calls c = record { work = allWork calls c; history = historyOf calls c fresh }
+cutBy calls c = record { work = allWork calls c; history = historyOf calls c noHistory }
 
 module _ (dma : Bool) (host : List ℕ) (n : ℕ) (h : History) where
   example : cutBy (cutCalls dma host n) (writer dma) ≡ record { work = true; history = h } → CutExample dma host n h

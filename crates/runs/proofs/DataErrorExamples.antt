@@ -37,7 +37,7 @@ use Rattle.runs.proofs.SpinLaws.{tick-registers, take-registers}
 use Rattle.runs.proofs.SmallLaws.{small-sound}
 use Rattle.runs.proofs.Tests.{allOff, off-prompt}
 use Rattle.demands.specs.EndsInTime.{boundOf}
-use Rattle.demands.specs.History.{some-of, History, fresh, historyOf}
+use Rattle.demands.specs.History.{some-of, History, noHistory, historyOf}
 use Rattle.demands.specs.PowerCut.{Writes, headOf}
 use Rattle.demands.specs.Work.{Real, Its, Alone, Ends}
 use Rattle.runs.proofs.CutExamples.{cut-examples}
@@ -130,7 +130,7 @@ all-off = ap (λ (d : Data). d .off) read-goes
 -- the conclusion
 ended : Real (writer true) → Writes (writer true) ordered written sectorOne → Its wrote (writer true)
     → Alone 0 (sample 2) wrote (writer true)
-    → historyOf wrote (writer true) fresh .begun ≡ some-of 274 (take 10 (drop 256 full)) → Spins 0 readCalls reader
+    → historyOf wrote (writer true) noHistory .begun ≡ some-of 274 (take 10 (drop 256 full)) → Spins 0 readCalls reader
     → Alone 0 leftImage readCalls reader → Ends DataErrorOrLate readCalls reader
 ended real accepted its alone begun spins alone′ =
     data-error (writer true) real ordered written sectorOne accepted (sample 2) (disk 1 1 2 1) sample-sound

@@ -11,7 +11,7 @@ use lib.Dec.{ltb}
 use borrow.Author.Tests.{ltb-true}
 use Rattle.image.specs.Disk.{diskIn}
 use Rattle.chip.specs.Commands.{entryOf}
-use Rattle.fdc.specs.Commands.{ticksOf}
+use Rattle.fdc.specs.Commands.{stepTime}
 use Rattle.reached.specs.Runs.{runCalls}
 use Rattle.fdc.specs.Ticks.{seenOf}
 use Rattle.image.specs.declared.disk.Disk.the-variants.{Absent, Present}
@@ -20,8 +20,8 @@ use Rattle.image.specs.Examples.{disk, sector}
 use Rattle.image.proofs.TestLaws.{both}
 use Rattle.chip.specs.declared.codes.Kind.the-variants.{Seek, Recalibrate}
 use Rattle.drive.specs.declared.Drive.{Drive}
-use Rattle.drive.specs.Due.{Over}
-use Rattle.drive.specs.Drive.{fresh, reportedOf}
+use Rattle.drive.specs.Due.{MotionOver}
+use Rattle.drive.specs.Drive.{freshDrive, reportedOf}
 use Rattle.sectors.specs.declared.order.Job.{Job}
 use Rattle.sectors.specs.declared.order.Job.the-variants.{Identify, Move, Format}
 use Rattle.sectors.specs.declared.order.Order.{Order}
@@ -212,7 +212,7 @@ recalibrateBytes = 0x03 ∷ 0xF0 ∷ 0x02 ∷ 0x07 ∷ []
 
 -- drive 0 as the reset's release leaves it
 abbrev released : Drive
-released = reportedOf 0xC0 (fresh 0)
+released = reportedOf 0xC0 (freshDrive 0)
 
 -- ticks without images
 abbrev bares : ℕ → List Call
@@ -228,7 +228,7 @@ pub record StepsMet : Type 0 where
   pub seek-drive : byteNo 1 1 (given seekBytes) % 4 ≡ 0
   pub seek-target : byteNo 2 1 (given seekBytes) ≡ 1
   pub seek-free : driveAt 0 (given seekBytes .drives) ≡ released
-  pub seek-ticks : ticksOf (given seekBytes) ≡ 63
+  pub seek-ticks : stepTime (given seekBytes) ≡ 63
   pub recalibrate : Completes Recalibrate 0 (given recalibrateBytes)
   pub recalibrate-drive : byteNo 1 0 (given recalibrateBytes) % 4 ≡ 0
   pub recalibrate-free : driveAt 0 (given recalibrateBytes .drives) ≡ released
@@ -267,13 +267,13 @@ steps-met = record {
 }
 
 -- and so does the theorem say
-pub seek-ends : Over 1 0x20 1
+pub seek-ends : MotionOver 1 0x20 1
     (driveAt 0 (after bare (runCalls (bares 62) (after (writes 5 1) (given seekBytes))) .drives))
 seek-ends =
     seeks-on-time (given seekBytes) 1 (steps-met .seek) 0 1 released (steps-met .seek-drive) (steps-met .seek-target)
     (steps-met .seek-free) refl .last (bares 62) (bares-calm 62) (omega (arith, steps-met .seek-ticks)) [] []
 
-pub recalibrate-ends : Over 0 0x20 0 (driveAt 0 (after bare (after (writes 5 0) (given recalibrateBytes)) .drives))
+pub recalibrate-ends : MotionOver 0 0x20 0 (driveAt 0 (after bare (after (writes 5 0) (given recalibrateBytes)) .drives))
 unfolding runCalls
 recalibrate-ends =
     recalibrates-on-time (given recalibrateBytes) 0 (steps-met .recalibrate) 0 released

@@ -23,7 +23,7 @@ use Rattle.demands.specs.DataError.{Spins}
 use Rattle.demands.specs.EndsInTime.{boundOf}
 use Rattle.demands.specs.FormatScript.{Formats, Stored, applied, storesOf, Allowed, FormattedBy}
 use Rattle.demands.specs.FormatSucceeds.{ServedUpTo}
-use Rattle.demands.specs.History.{History, Begun, no-one, some-of, fresh, storedBy, noted, handed, taken, historyBy}
+use Rattle.demands.specs.History.{History, Begun, no-one, some-of, noHistory, storedBy, notedStore, handed, taken, historyBy}
 use Rattle.demands.specs.History.{historyOf}
 use Rattle.demands.specs.InTime.{AtTick, InTime}
 use Rattle.demands.specs.PowerCut.{headOf}
@@ -31,7 +31,7 @@ use Rattle.demands.specs.Work.{Alone}
 use Rattle.demands.proofs.FormatLaws.{format-script}
 use Rattle.demands.proofs.FormatSucceedsLaws.{format-succeeds}
 use Rattle.demands.proofs.FormatTimeLaws.{prompt-served, format-served}
-use Rattle.runs.specs.FormatExamples.{one, left}
+use Rattle.runs.specs.FormatExamples.{one, formatLeft}
 use Rattle.runs.specs.FormatRuns.{longOne, plan, address, script, FormatRuns}
 use Rattle.runs.specs.Host.{idle, poured, double}
 use Rattle.runs.specs.Whole.{askedBy, handing, callsOf}
@@ -48,7 +48,7 @@ module _ (n : ℕ) (h : History) (more : n ≤ length (h .host)) where
   still-stored at byte (some-of mark bytes) =
       by-test (eqb at mark) (λ (h′ : History). n ≤ length (h′ .host)) _ _ (λ _. more) (λ _. more)
 
-  still-noted : (effect : Effect) → n ≤ length (noted effect h .host)
+  still-noted : (effect : Effect) → n ≤ length (notedStore effect h .host)
   still-noted Nothing = more
   still-noted (Store at byte) = still-stored at byte (h .begun)
 
@@ -136,21 +136,21 @@ opening-off : allOff (handing 1 opening (askedBy one) (double 1)) (askedBy one) 
 unfolding allOpen allOff
 opening-off = refl
 
-opening-host : historyOf (handing 1 opening (askedBy one) (double 1)) (askedBy one) fresh .host ≡ address
+opening-host : historyOf (handing 1 opening (askedBy one) (double 1)) (askedBy one) noHistory .host ≡ address
 unfolding allOpen
 opening-host = refl
 
-opened : (more : List Call) → ServedUpTo 4 (handing 1 (opening ++ more) (askedBy one) (double 1)) (askedBy one) fresh
+opened : (more : List Call) → ServedUpTo 4 (handing 1 (opening ++ more) (askedBy one) (double 1)) (askedBy one) noHistory
 opened more =
     let calls = handing 1 opening (askedBy one) (double 1) in
-    served-longer 1 4 opening more (askedBy one) (double 1) fresh
-    (prompt-served 4 calls (askedBy one) fresh (off-prompt calls (askedBy one) opening-off))
+    served-longer 1 4 opening more (askedBy one) (double 1) noHistory
+    (prompt-served 4 calls (askedBy one) noHistory (off-prompt calls (askedBy one) opening-off))
     (rw opening-host (omega arith))
 
-served : ServedUpTo 4 (callsOf longOne) (askedBy one) fresh
+served : ServedUpTo 4 (callsOf longOne) (askedBy one) noHistory
 served = opened (idle 263 ++ idle 1716)
 
-in-time : (calls : List Call) → Alone 1 (double 1) calls (askedBy one) → ServedUpTo 4 calls (askedBy one) fresh
+in-time : (calls : List Call) → Alone 1 (double 1) calls (askedBy one) → ServedUpTo 4 calls (askedBy one) noHistory
     → InTime calls (askedBy one)
 in-time =
     format-served (askedBy one) (formatted .real) (one .order) plan accepts (double 1) (disk 1 1 2 1)
@@ -178,7 +178,7 @@ format-runs =
     format-script (askedBy one) (formatted .real) (one .order) plan accepts (double 1) (disk 1 1 2 1)
     (formatted .mounted) (callsOf one) (formatted .its) (formatted .alone) in
     let by-script :
-    FormattedBy (disk 1 1 2 1) 0 1 0 plan address 263 (double 1) left (runCalls (callsOf one) (askedBy one)) =
+    FormattedBy (disk 1 1 2 1) 0 1 0 plan address 263 (double 1) formatLeft (runCalls (callsOf one) (askedBy one)) =
     rw (head, formatted .host-is, stores, formatted .left-is) at by-stores in
     record {
       accepted = accepts;

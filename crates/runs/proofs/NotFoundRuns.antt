@@ -20,13 +20,13 @@ use Rattle.demands.specs.PowerCut.{Stands, headOf}
 use Rattle.demands.specs.Work.{Alone, Ends}
 use Rattle.demands.proofs.NotFoundLaws.{not-found}
 use Rattle.runs.specs.Host.{idle}
-use Rattle.runs.specs.NotFoundRuns.{sought, seeking, strange, absent, NotFoundRun}
+use Rattle.runs.specs.NotFoundRuns.{soughtId, seeking, strange, absent, NotFoundRun}
 use Rattle.runs.specs.Whole.{askedBy, callsOf}
 use Rattle.runs.proofs.Open.{allOpen}
 use Rattle.runs.proofs.SpinLaws.{dma-spins, handing-ticks}
 use Rattle.runs.proofs.WholeLaws.{real-asked, alone-in}
 
-accepts : Transfers (askedBy absent) (absent .order) seeking sought
+accepts : Transfers (askedBy absent) (absent .order) seeking soughtId
 unfolding allOpen
 accepts = record { accepted = refl; moves = refl }
 
@@ -59,12 +59,12 @@ other-c zero h e = omega arith
 other-c (suc zero) h e = omega arith
 other-c (suc (suc k)) h e = omega (arith, h .on-track)
 
-nowhere : (at : ℕ) → Stands (disk 1 1 2 1) strange 0 (record { id = sought; side = 0 }) at → ⊥
+nowhere : (at : ℕ) → Stands (disk 1 1 2 1) strange 0 (record { id = soughtId; side = 0 }) at → ⊥
 nowhere at s =
     other-c (s .slot) (s .has)
     (ap (λ (i : ℕ). idAt strange i .c) (sym (s .place)) ∙ ap (λ (x : Id). x .c) (s .address))
 
-missing : Missing (disk 1 1 2 1) strange (headOf (absent .order) (askedBy absent)) 0 seeking sought
+missing : Missing (disk 1 1 2 1) strange (headOf (absent .order) (askedBy absent)) 0 seeking soughtId
 missing =
     rw head (record {
       on-disk = omega arith;
@@ -79,10 +79,10 @@ met : (some (hasId (disk 1 1 2 1) strange 0 0) 2 ≡ true) × (some (otherBelow 
 unfolding offsetOf trackAt trackLength sizeOf
 met = (refl, refl, refl)
 
-ends : Ends (Misses (absent .order) sought true true true) (callsOf absent) (askedBy absent)
+ends : Ends (Misses (absent .order) soughtId true true true) (callsOf absent) (askedBy absent)
 ends =
     rw (head, met .0, met .1, met .2) at
-    (not-found (askedBy absent) (real-asked absent refl) (absent .order) seeking sought accepts strange (disk 1 1 2 1)
+    (not-found (askedBy absent) (real-asked absent refl) (absent .order) seeking soughtId accepts strange (disk 1 1 2 1)
     mounted missing (callsOf absent) spins alone enough)
 
 pub not-found-run : NotFoundRun

@@ -15,7 +15,7 @@ use Rattle.demands.specs.EndsInTime.{boundOf}
 use Rattle.demands.specs.Work.{atWork}
 use Rattle.runs.specs.Host.{idle, double}
 use Rattle.runs.specs.PromptRuns.{wrote, wroteEnd, left, back, backEnd, longer, LongRun, PromptRuns}
-use Rattle.runs.specs.Whole.{Given, Outcome, askedBy, callsOf, Served}
+use Rattle.runs.specs.Whole.{WholeGiven, WholeOutcome, askedBy, callsOf, Served}
 use Rattle.runs.proofs.Open.{allOpen}
 use Rattle.runs.proofs.SmallLaws.{small-sound}
 use Rattle.runs.proofs.SpinLaws.{dmaTests, dma-spins, off-longer, handing-ticks}
@@ -84,7 +84,7 @@ left-sound =
       last = (refl, refl, refl);
     })
 
-pub long-run : (x : Given) (n : ℕ) → Served x → runCalls (callsOf x) (askedBy x) .phase ≡ Answering true
+pub long-run : (x : WholeGiven) (n : ℕ) → Served x → runCalls (callsOf x) (askedBy x) .phase ≡ Answering true
     → x .order .drive < 2 → dmaTests (longer n x .does) ≡ true
     → motorIn (askedBy x .registers .dor) (x .order .drive) ≡ true
     → boundOf (x .disk) ≤ tickCount (longer n x .does) → LongRun (longer n x)
@@ -117,8 +117,8 @@ prompt-runs =
       read-served = read-served back backEnd back-goes;
       write-long =
           long-run wrote 1461 (write-served wrote wroteEnd wrote-sum)
-          (ap (λ (o : Outcome). o .phase) (written .outcome)) (omega arith) refl refl (omega arith);
+          (ap (λ (o : WholeOutcome). o .phase) (written .outcome)) (omega arith) refl refl (omega arith);
       read-long =
           long-run back 1463 (read-served back backEnd back-goes)
-          (ap (λ (o : Outcome). o .phase) (read .outcome)) (omega arith) refl refl (omega arith);
+          (ap (λ (o : WholeOutcome). o .phase) (read .outcome)) (omega arith) refl refl (omega arith);
     }

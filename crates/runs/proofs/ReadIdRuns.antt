@@ -13,7 +13,7 @@ use Rattle.image.specs.Examples.{disk}
 use Rattle.image.specs.Layout.{sizeOf, trackLength, trackAt, offsetOf, Has}
 use Rattle.image.specs.Slot.{idAt}
 use Rattle.image.specs.Sound.{markIn}
-use Rattle.engine.specs.Examples.{chr}
+use Rattle.engine.specs.Examples.{chrnOf}
 use Rattle.reached.specs.Moves.{tickCount}
 use Rattle.fdc.specs.Registers.{motorIn}
 use Rattle.demands.specs.DataError.{Spins}
@@ -24,15 +24,15 @@ use Rattle.demands.specs.Work.{Alone, Ends}
 use Rattle.answers.specs.Results.{zeros}
 use Rattle.demands.proofs.ReadIdLaws.{read-id-gives, read-id-none}
 use Rattle.runs.specs.Host.{idle, double}
-use Rattle.runs.specs.ReadIdRuns.{identifying, second, neither, ReadIdRun, ReadIdRuns}
-use Rattle.runs.specs.Whole.{Given, askedBy, callsOf}
+use Rattle.runs.specs.ReadIdRuns.{identifying, second, neitherId, ReadIdRun, ReadIdRuns}
+use Rattle.runs.specs.Whole.{WholeGiven, askedBy, callsOf}
 use Rattle.runs.proofs.Open.{allOpen}
 use Rattle.runs.proofs.SpinLaws.{dma-spins, handing-ticks}
 use Rattle.runs.proofs.WholeLaws.{real-asked, alone-in}
 
 -- what does not hang on the image
 module _ (img : List ℕ) where
-  abbrev x : Given
+  abbrev x : WholeGiven
   x = identifying img
 
   accepts : Identifies (askedBy x) (x .order)
@@ -94,34 +94,34 @@ neither-none zero h m = omega (arith, m .0)
 neither-none (suc zero) h m = omega (arith, m .0)
 neither-none (suc (suc k)) h m = omega (arith, h .on-track)
 
-second-id : idAt (double 0) (offsetOf (disk 1 1 2 1) 0 0 1) ≡ chr 0 0 2
+second-id : idAt (double 0) (offsetOf (disk 1 1 2 1) 0 0 1) ≡ chrnOf 0 0 2
 unfolding offsetOf trackAt trackLength sizeOf
 second-id = refl
 
 first : FirstId (disk 1 1 2 1) (double 0) (headOf (second .order) (askedBy second)) 0 1
 first = rw (head (double 0)) second-first
 
-none : NoId (disk 1 1 2 1) (set (double 0) 274 0) (headOf (neither .order) (askedBy neither)) 0
+none : NoId (disk 1 1 2 1) (set (double 0) 274 0) (headOf (neitherId .order) (askedBy neitherId)) 0
 none =
     rw (head (set (double 0) 274 0))
     (record { on-disk = omega arith; on-cylinder = omega arith; none = neither-none })
 
-id-is : idAt (double 0) (offsetOf (disk 1 1 2 1) (headOf (second .order) (askedBy second)) 0 1) ≡ chr 0 0 2
+id-is : idAt (double 0) (offsetOf (disk 1 1 2 1) (headOf (second .order) (askedBy second)) 0 1) ≡ chrnOf 0 0 2
 id-is = rw (head (double 0)) second-id
 
 pub read-id-runs : ReadIdRuns
 read-id-runs =
-    let found : Ends (Gives (second .order) true 0x00 (chr 0 0 2)) (callsOf second) (askedBy second) =
+    let found : Ends (Gives (second .order) true 0x00 (chrnOf 0 0 2)) (callsOf second) (askedBy second) =
     rw id-is at
     (read-id-gives (askedBy second) (real-asked second refl) (second .order) (accepts (double 0)) (double 0)
     (disk 1 1 2 1) (mounted .0) 1 first (callsOf second) (spins (double 0)) (alone (double 0)) (enough (double 0))) in
     let missed =
-    read-id-none (askedBy neither) (real-asked neither refl) (neither .order) (accepts (neither .img)) (neither .img)
-    (disk 1 1 2 1) (mounted .1) none (callsOf neither) (spins (neither .img)) (alone (neither .img))
-    (enough (neither .img)) in
+    read-id-none (askedBy neitherId) (real-asked neitherId refl) (neitherId .order) (accepts (neitherId .img)) (neitherId .img)
+    (disk 1 1 2 1) (mounted .1) none (callsOf neitherId) (spins (neitherId .img)) (alone (neitherId .img))
+    (enough (neitherId .img)) in
     record {
       first = first;
-      given = read-id-run (double 0) true 0x00 (chr 0 0 2) (mounted .0) found;
+      given = read-id-run (double 0) true 0x00 (chrnOf 0 0 2) (mounted .0) found;
       none = none;
-      nothing = read-id-run (neither .img) false 0x01 zeros (mounted .1) missed;
+      nothing = read-id-run (neitherId .img) false 0x01 zeros (mounted .1) missed;
     }

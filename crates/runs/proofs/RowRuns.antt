@@ -10,7 +10,7 @@ use lib.ListN.{set}
 use Rattle.reached.specs.Runs.{Call, reads, writes, takes, gives, ticks}
 use Rattle.image.specs.declared.slot.Id.{Id}
 use Rattle.answers.specs.Results.{drained, stored, skipped}
-use Rattle.runs.specs.RowRuns.{given, box, on, reading, writing, move, format, marks, RowRuns}
+use Rattle.runs.specs.RowRuns.{rowGiven, box, on, rowReading, rowWriting, move, format, marks, RowRuns}
 use Rattle.runs.proofs.Open.{allOpen}
 use Rattle.runs.proofs.Tests.{byteTests, all-of-tests}
 use Rattle.demands.specs.Work.{Real}
@@ -25,47 +25,47 @@ unfolding allOpen
 row-runs = record {
   empty =
       result-bytes .first .empty _ _ [] []
-      (record { real = real-box 0 (given (move 0x46 1 2) []) refl; accepted = refl }) refl;
+      (record { real = real-box 0 (rowGiven (move 0x46 1 2) []) refl; accepted = refl }) refl;
   no-track =
       result-bytes .first .no-track _ _ (marks 1 1) [] _
-      (record { real = real-box 5 (given (move 0x46 1 2) []) refl; accepted = refl }) refl (inl (omega arith));
+      (record { real = real-box 5 (rowGiven (move 0x46 1 2) []) refl; accepted = refl }) refl (inl (omega arith));
   protected =
       result-bytes .first .protected _ _ (set (marks 1 1) 7 1) [] _
       (record {
-        real = real-box 0 (given (move 0x45 1 2) []) refl;
+        real = real-box 0 (rowGiven (move 0x45 1 2) []) refl;
         accepted = refl;
       }) refl (omega arith, omega arith) refl refl;
   misplanned =
       result-bytes .first .misplanned _ _ (marks 1 1) [] _ _
       (record {
-        real = real-box 0 (given (format 3) []) refl;
+        real = real-box 0 (rowGiven (format 3) []) refl;
         accepted = refl;
       }) refl (omega arith, omega arith) refl refl (inr (inr (omega arith)));
   no-id =
       result-bytes .search _ _ _ (marks 0 0) [] .no-id _
       (record {
-        real = real-box 0 (given (move 0x46 1 2) (on 4 (marks 0 0))) refl;
+        real = real-box 0 (rowGiven (move 0x46 1 2) (on 4 (marks 0 0))) refl;
         works = refl;
         stays = refl;
       }) (omega arith, omega arith) refl refl;
   others-met =
       result-bytes .search _ _ _ (marks 1 0) [] .others-met _
       (record {
-        real = real-box 0 (given (move 0x46 3 4) (on 4 (marks 1 0))) refl;
+        real = real-box 0 (rowGiven (move 0x46 3 4) (on 4 (marks 1 0))) refl;
         works = refl;
         stays = refl;
       }) (omega arith, omega arith) refl refl;
   other-id =
       result-bytes .search _ _ _ (marks 1 1) [] .other-id _
       (record {
-        real = real-box 0 (given (move 0x46 3 4) (on 4 (marks 1 1))) refl;
+        real = real-box 0 (rowGiven (move 0x46 3 4) (on 4 (marks 1 1))) refl;
         works = refl;
         stays = refl;
       }) (omega arith, omega arith) tt (λ e. omega (arith, ap (λ (i : Id). i .r) (e .0)));
   no-data =
       result-bytes .search _ _ _ (marks 5 1) [] .no-data _
       (record {
-        real = real-box 0 (given (move 0x46 1 2) (on 1 (marks 5 1))) refl;
+        real = real-box 0 (rowGiven (move 0x46 1 2) (on 1 (marks 5 1))) refl;
         works = refl;
         stays = refl;
       }) refl refl (refl, refl);
@@ -74,7 +74,7 @@ row-runs = record {
       (record {
         real =
             real-box 0
-            (given (move 0xC6 1 1) (on 2 (marks 1 1) ++ (reading 256 (marks 1 1) ++ on 1 (marks 1 1))))
+            (rowGiven (move 0xC6 1 1) (on 2 (marks 1 1) ++ (rowReading 256 (marks 1 1) ++ on 1 (marks 1 1))))
             refl;
         works = refl;
         stays = refl;
@@ -82,7 +82,7 @@ row-runs = record {
   overrun =
       result-bytes .reads _ _ _ (marks 1 1) [] .overrun _ _
       (record {
-        real = real-box 0 (given (move 0x46 1 2) (on 3 (marks 1 1))) refl;
+        real = real-box 0 (rowGiven (move 0x46 1 2) (on 3 (marks 1 1))) refl;
         works = refl;
         stays = refl;
       }) refl (omega arith);
@@ -91,7 +91,7 @@ row-runs = record {
       (record {
         real =
             real-box 0
-            (given (move 0x46 1 2) (on 2 (marks 1 1) ++ (reading 255 (marks 1 1) ++ on 64 (marks 1 1))))
+            (rowGiven (move 0x46 1 2) (on 2 (marks 1 1) ++ (rowReading 255 (marks 1 1) ++ on 64 (marks 1 1))))
             refl;
         works = refl;
         stays = refl;
@@ -99,21 +99,21 @@ row-runs = record {
   data-error =
       result-bytes .reads _ _ _ (marks 3 1) [] .data-error _ _
       (record {
-        real = real-box 0 (given (move 0x46 1 2) (on 2 (marks 3 1) ++ reading 256 (marks 3 1))) refl;
+        real = real-box 0 (rowGiven (move 0x46 1 2) (on 2 (marks 3 1) ++ rowReading 256 (marks 3 1))) refl;
         works = refl;
         stays = refl;
       }) refl refl;
   other-kind =
       result-bytes .reads _ _ _ (marks 2 1) [] .other-kind _ _
       (record {
-        real = real-box 0 (given (move 0x46 1 2) (on 2 (marks 2 1) ++ reading 256 (marks 2 1))) refl;
+        real = real-box 0 (rowGiven (move 0x46 1 2) (on 2 (marks 2 1) ++ rowReading 256 (marks 2 1))) refl;
         works = refl;
         stays = refl;
       }) refl refl refl;
   no-byte =
       result-bytes .writes _ _ _ (marks 1 1) [] .no-byte _ _
       (record {
-        real = real-box 0 (given (move 0x45 1 2) (on 65 (marks 1 1))) refl;
+        real = real-box 0 (rowGiven (move 0x45 1 2) (on 65 (marks 1 1))) refl;
         works = refl;
         stays = refl;
       }) refl (omega arith);
@@ -122,7 +122,7 @@ row-runs = record {
       (record {
         real =
             real-box 0
-            (given (move 0x45 1 2) (on 2 (marks 1 1) ++ (writing 1 (marks 1 1) ++ on 1 (marks 1 1))))
+            (rowGiven (move 0x45 1 2) (on 2 (marks 1 1) ++ (rowWriting 1 (marks 1 1) ++ on 1 (marks 1 1))))
             refl;
         works = refl;
         stays = refl;
@@ -132,7 +132,7 @@ row-runs = record {
       (record {
         real =
             real-box 0
-            (given (move 0x46 1 2) (on 2 (marks 1 1) ++ (ticks (marks 1 1) [] ∷ takes true ∷ on 255 (marks 1 1))))
+            (rowGiven (move 0x46 1 2) (on 2 (marks 1 1) ++ (ticks (marks 1 1) [] ∷ takes true ∷ on 255 (marks 1 1))))
             refl;
         works = refl;
         stays = refl;
@@ -140,45 +140,45 @@ row-runs = record {
   stored =
       result-bytes .next _ _ _ (marks 1 1) [] .by-tc _ false
       (record {
-        real = real-box 0 (given (move 0x45 1 2) (on 2 (marks 1 1) ++ (gives 0xA5 true ∷ on 257 (marks 1 1)))) refl;
+        real = real-box 0 (rowGiven (move 0x45 1 2) (on 2 (marks 1 1) ++ (gives 0xA5 true ∷ on 257 (marks 1 1)))) refl;
         works = refl;
         stays = refl;
       }) (stored _ _ refl (omega arith) refl refl);
   past-eot =
       result-bytes .next _ _ _ (marks 1 1) [] .past-eot _ false
       (record {
-        real = real-box 0 (given (move 0x46 1 1) (on 2 (marks 1 1) ++ reading 256 (marks 1 1))) refl;
+        real = real-box 0 (rowGiven (move 0x46 1 1) (on 2 (marks 1 1) ++ rowReading 256 (marks 1 1))) refl;
         works = refl;
         stays = refl;
       }) (drained _ _ refl refl refl refl refl refl) refl (λ t z. false≢true t);
   skipped =
       result-bytes .next _ _ _ (marks 2 1) [] .past-eot _ true
       (record {
-        real = real-box 0 (given (move 0x66 1 1) (on 1 (marks 2 1))) refl;
+        real = real-box 0 (rowGiven (move 0x66 1 1) (on 1 (marks 2 1))) refl;
         works = refl;
         stays = refl;
       }) (skipped _ true false refl refl refl refl (refl, refl) true≢false refl refl) refl (λ t z. false≢true t);
   found =
       result-bytes .read-id _ _ (marks 1 1) [] .found _ _
-      (record { real = real-box 0 (given (0x4A ∷ 0 ∷ []) (on 1 (marks 1 1))) refl; works = refl; stays = refl }) tt;
+      (record { real = real-box 0 (rowGiven (0x4A ∷ 0 ∷ []) (on 1 (marks 1 1))) refl; works = refl; stays = refl }) tt;
   none =
       result-bytes .read-id _ _ (marks 0 0) [] .none _ _
       (record {
-        real = real-box 0 (given (0x4A ∷ 0 ∷ []) (on 4 (marks 0 0))) refl;
+        real = real-box 0 (rowGiven (0x4A ∷ 0 ∷ []) (on 4 (marks 0 0))) refl;
         works = refl;
         stays = refl;
       }) (omega arith, omega arith) refl;
   form-no-byte =
       result-bytes .format _ _ _ (marks 1 1) [] .no-byte _ _
       (record {
-        real = real-box 0 (given (format 2) (on 64 (marks 1 1))) refl;
+        real = real-box 0 (rowGiven (format 2) (on 64 (marks 1 1))) refl;
         works = refl;
         stays = refl;
       }) refl (omega arith);
   form-missing =
       result-bytes .format _ _ _ (marks 1 1) [] .missing _ _
       (record {
-        real = real-box 0 (given (format 2) (on 1 (marks 1 1) ++ (writing 1 (marks 1 1) ++ on 1 (marks 1 1)))) refl;
+        real = real-box 0 (rowGiven (format 2) (on 1 (marks 1 1) ++ (rowWriting 1 (marks 1 1) ++ on 1 (marks 1 1)))) refl;
         works = refl;
         stays = refl;
       }) refl;
@@ -187,9 +187,9 @@ row-runs = record {
       (record {
         real =
             real-box 0
-            (given (format 2)
+            (rowGiven (format 2)
             (on 1 (marks 1 1)
-            ++ (writing 5 (marks 1 1) ++ (on 257 (marks 1 1) ++ (writing 5 (marks 1 1) ++ on 256 (marks 1 1))))))
+            ++ (rowWriting 5 (marks 1 1) ++ (on 257 (marks 1 1) ++ (rowWriting 5 (marks 1 1) ++ on 256 (marks 1 1))))))
             refl;
         works = refl;
         stays = refl;
@@ -197,15 +197,15 @@ row-runs = record {
   form-cleared =
       result-bytes .format _ _ _ (marks 1 1) [] .cleared _
       (record {
-        real = real-box 0 (given (format 1) (on 1 (marks 1 1) ++ (writing 5 (marks 1 1) ++ on 257 (marks 1 1)))) refl;
+        real = real-box 0 (rowGiven (format 1) (on 1 (marks 1 1) ++ (rowWriting 5 (marks 1 1) ++ on 257 (marks 1 1)))) refl;
         works = refl;
         stays = refl;
       }) (omega arith);
   lost =
-      result-bytes .lost _ [] [] .moves _ _ _ (real-box 0 (given (move 0x46 1 2) (on 1 (marks 1 1))) refl) refl tt;
+      result-bytes .lost _ [] [] .moves _ _ _ (real-box 0 (rowGiven (move 0x46 1 2) (on 1 (marks 1 1))) refl) refl tt;
   lost-id =
       result-bytes .lost _ [] [] .identifies _ _ _
-      (real-box 0 (given (0x4A ∷ 0 ∷ []) (on 1 (marks 1 1))) refl) refl tt;
+      (real-box 0 (rowGiven (0x4A ∷ 0 ∷ []) (on 1 (marks 1 1))) refl) refl tt;
   lost-format =
-      result-bytes .lost _ [] [] .formats _ _ _ (real-box 0 (given (format 2) (on 1 (marks 1 1))) refl) refl tt;
+      result-bytes .lost _ [] [] .formats _ _ _ (real-box 0 (rowGiven (format 2) (on 1 (marks 1 1))) refl) refl tt;
 }

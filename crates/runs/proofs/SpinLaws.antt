@@ -23,7 +23,7 @@ use Rattle.fdc.specs.Record.{withDrives, withFifo, withPhase, validOf}
 use Rattle.fdc.specs.Registers.{heldIn, motorIn, drqOf}
 use Rattle.reached.specs.Runs.{Call, powers, reads, writes, takes, gives, ticks, notes, answerTo, after, runCalls}
 use Rattle.fdc.specs.Ticks.{steppedOf, sensedAt, stillOf, settledOf, decidedOf, decideIn, decideOf, ruledOf}
-use Rattle.fdc.specs.Ticks.{startOf as fdc·startOf, workOf as fdc·workOf, tickOf as fdc·tickOf}
+use Rattle.fdc.specs.Ticks.{startTick, workTick, tickOf}
 use Rattle.fdc.proofs.DmaLaws.{dma-read-is, dma-write-is}
 use Rattle.demands.specs.DataError.{Spins}
 use Rattle.demands.specs.InTime.{AtTicks, Prompt}
@@ -38,7 +38,7 @@ settled-registers (Works work) fifo c = refl
 
 decided-registers : (p : Phase) (a b : List ℕ) (c : Controller)
     → decideIn p a b c .controller .registers ≡ c .registers
-unfolding decideIn stillOf fdc·startOf fdc·workOf decidedOf sensedAt saidOf answeredOf
+unfolding decideIn stillOf startTick workTick decidedOf sensedAt saidOf answeredOf
 decided-registers Idle a b c = refl
 decided-registers (Gathering entry) a b c = refl
 decided-registers (Starting order) a b c = settled-registers _ _ c
@@ -47,7 +47,7 @@ decided-registers (Sensing unit) a b c = refl
 decided-registers (Answering loud) a b c = refl
 
 pub tick-registers : (a b : List ℕ) (c : Controller) → after (ticks a b) c .registers ≡ c .registers
-unfolding answerTo fdc·tickOf answerOf ruledOf decideOf stillOf steppedOf withDrives
+unfolding answerTo tickOf answerOf ruledOf decideOf stillOf steppedOf withDrives
 tick-registers a b c =
     by-test (validOf c) (λ (d : Decision). d .controller .registers ≡ c .registers) _ _
     (λ _. by-test (heldIn (c .registers .dor)) (λ (d : Decision). d .controller .registers ≡ c .registers) _ _

@@ -22,7 +22,7 @@ use Rattle.reached.specs.Runs.{Call, ticks, answerTo, after}
 use Rattle.fdc.specs.Ticks.{imageAfter}
 use Rattle.demands.specs.DataError.{Spins}
 use Rattle.demands.specs.EndsInTime.{boundOf}
-use Rattle.demands.specs.History.{History, fresh, historyBy}
+use Rattle.demands.specs.History.{History, noHistory, historyBy}
 use Rattle.demands.specs.InTime.{AtTicks, Prompt}
 use Rattle.demands.specs.PowerCut.{aimNo}
 use Rattle.demands.specs.Succeeds.{Writable, IsThere, AllThere, Fill, Noting, Tells, LastOne, Untold}
@@ -177,8 +177,8 @@ unfolding boundOf sizeOf
 bound-is = refl
 
 record Tested : Type 0 where
-  five : fine (tellsTest 5) fiveBytes (writer true) fresh ≡ true
-  both-full : fine untoldTest bothSectors (writer false) fresh ≡ true
+  five : fine (tellsTest 5) fiveBytes (writer true) noHistory ≡ true
+  both-full : fine untoldTest bothSectors (writer false) noHistory ≡ true
 
 tested : Tested
 unfolding allOpen fine
@@ -186,9 +186,9 @@ tested = record { five = refl; both-full = refl }
 
 pub succeeds-examples : SucceedsExamples
 succeeds-examples =
-    let five = fine-met (tellsTest 5) (Tells 5) (tells-met 5) fiveBytes (writer true) fresh (tested .five)
+    let five = fine-met (tellsTest 5) (Tells 5) (tells-met 5) fiveBytes (writer true) noHistory (tested .five)
     (served-calm true (down 5) 1980 (writer true) (sample 2)) in
-    let filled = fine-met untoldTest Untold (λ h e. not-off (h .told) e) bothSectors (writer false) fresh
+    let filled = fine-met untoldTest Untold (λ h e. not-off (h .told) e) bothSectors (writer false) noHistory
     (tested .both-full) (served-calm false (full ++ down 3) 1980 (writer false) (sample 2)) in
     record {
       by-dma = write-succeeds (writer true) (reached true) ordered written sectorOne (accepts true) (sample 2)

@@ -17,9 +17,9 @@ use Rattle.fdc.specs.declared.record.Controller.{Controller}
 use Rattle.reached.specs.Runs.{Call, after}
 use Rattle.demands.specs.EndsInTime.{boundOf}
 use Rattle.demands.specs.HandedOver.{Reads, Taken, untaken, takenBy, IsGood}
-use Rattle.demands.specs.History.{History, fresh, historyBy}
+use Rattle.demands.specs.History.{History, noHistory, historyBy}
 use Rattle.demands.specs.PowerCut.{Writes, aimNo, headOf}
-use Rattle.demands.specs.ReadSucceeds.{AsTaken, TellsAt, AllGood, Untold}
+use Rattle.demands.specs.ReadSucceeds.{AsTaken, TellsAt, AllGood, UntoldRead}
 use Rattle.demands.specs.Succeeds.{Writable, IsThere, AllThere, Fill, Noting, Tells, LastOne}
 use Rattle.demands.specs.Work.{atWork}
 use Rattle.demands.proofs.InTimeLaws.{prompt-in-time}
@@ -32,7 +32,7 @@ use Rattle.runs.specs.Host.{double}
 use Rattle.runs.specs.PromptRuns.{wrote, left, back, LongRun}
 use Rattle.runs.specs.SuccessRuns.{longWrite, longRead, longEot, SuccessRuns}
 use Rattle.runs.specs.SucceedsExamples.{fromOne}
-use Rattle.runs.specs.Whole.{Outcome, askedBy, callsOf}
+use Rattle.runs.specs.Whole.{WholeOutcome, askedBy, callsOf}
 use Rattle.runs.proofs.HandedExamples.{handed-examples}
 use Rattle.runs.proofs.Open.{allOpen}
 use Rattle.runs.proofs.PromptRuns.{long-run, prompt-runs}
@@ -79,7 +79,7 @@ tells-at bytes t e =
 abbrev untold : Taken → Bool
 untold t = not (t .told)
 
-write-notes : allNote (tellsTest 260) (callsOf longWrite) (askedBy wrote) fresh ≡ true
+write-notes : allNote (tellsTest 260) (callsOf longWrite) (askedBy wrote) noHistory ≡ true
 unfolding allOpen allNote
 write-notes = refl
 
@@ -208,7 +208,7 @@ eot-long : LongRun longEot
 unfolding allOpen boundOf
 eot-long =
     long-run pastEot 1721 (handed-examples .past-eot-served)
-    (ap (λ (o : Outcome). o .phase) (handed-examples .past-eot-run .outcome)) (omega arith) refl refl (omega arith)
+    (ap (λ (o : WholeOutcome). o .phase) (handed-examples .past-eot-run .outcome)) (omega arith) refl refl (omega arith)
 
 pub wrote-accepts : Writes (askedBy wrote) (wrote .order) (writing false false 2) sectorOne
 unfolding allOpen
@@ -240,11 +240,11 @@ success-runs =
     let long-write = prompt-runs .write-long in
     let long-read = prompt-runs .read-long in
     let notes =
-    note-all (tellsTest 260) (Tells 260) (tells-met 260) (callsOf longWrite) (askedBy wrote) fresh write-notes in
+    note-all (tellsTest 260) (Tells 260) (tells-met 260) (callsOf longWrite) (askedBy wrote) noHistory write-notes in
     let takes =
     take-all (tellsAt 260) (TellsAt 260) (tells-at 260) (callsOf longRead) (askedBy back) untaken read-takes in
     let untolds =
-    take-all untold Untold (λ t e. not-off (t .told) e) (callsOf longEot) (askedBy pastEot) untaken eot-takes in
+    take-all untold UntoldRead (λ t e. not-off (t .told) e) (callsOf longEot) (askedBy pastEot) untaken eot-takes in
     record {
       writable = writable;
       fill = fills;

@@ -39,7 +39,7 @@ use Rattle.runs.specs.TripExamples.{TripExample}
 use Rattle.runs.specs.PromptRuns.{first, wrote, wroteEnd, left, back, backEnd}
 use Rattle.runs.specs.SucceedsExamples.{fromOne}
 use Rattle.runs.specs.SuccessRuns.{longRead}
-use Rattle.runs.specs.Whole.{Outcome, askedBy, callsOf, WriteRun, ReadRun}
+use Rattle.runs.specs.Whole.{WholeOutcome, askedBy, callsOf, WriteRun, ReadRun}
 use Rattle.runs.proofs.PromptRuns.{prompt-runs}
 use Rattle.runs.proofs.SuccessRuns.{heads, wrote-accepts, back-accepts, success-runs}
 
@@ -85,8 +85,8 @@ reads-it =
 success : Succeeded writes-it
 success =
     record {
-      waits = ap (λ (o : Outcome). o .phase) (saving .outcome);
-      normal = omega (arith, ap (λ (o : Outcome). getD (o .result) 0 0) (saving .outcome));
+      waits = ap (λ (o : WholeOutcome). o .phase) (saving .outcome);
+      normal = omega (arith, ap (λ (o : WholeOutcome). getD (o .result) 0 0) (saving .outcome));
     }
 
 all-the-same : SameSectors writes-it reads-it
@@ -117,10 +117,10 @@ same-again =
     }
 
 host-is : doneBy writes-it .host ≡ first ++ down 4
-host-is = ap (λ (o : Outcome). o .bytes) (saving .outcome)
+host-is = ap (λ (o : WholeOutcome). o .bytes) (saving .outcome)
 
 two : sectorsBy writes-it ≡ 2
-two = ap (λ (o : Outcome). length (o .finished)) (saving .outcome)
+two = ap (λ (o : WholeOutcome). length (o .finished)) (saving .outcome)
 
 -- 260 bytes
 many-is : length (doneBy writes-it .host) ≡ 260
@@ -148,7 +148,7 @@ loads-it =
 
 pub trip-example : TripExample
 trip-example =
-    let got = ap (λ (o : Outcome). o .bytes) (loading .outcome) in
+    let got = ap (λ (o : WholeOutcome). o .bytes) (loading .outcome) in
     let many = ap length (got ∙ sym host-is) in
     record {
       write = writes-it;

@@ -23,13 +23,13 @@ use Rattle.reached.specs.Runs.{Call, powers, reads, writes, takes, gives, ticks
 use Rattle.fdc.specs.Ticks.{ruledOf, tickOf, imageAfter}
 use Rattle.demands.specs.Acknowledged.{resultByte, resultId, Acknowledges}
 use Rattle.demands.specs.HandedOver.{Reads, HandedBy, Taken, untaken, tookBy, takenBy, takenOver}
-use Rattle.demands.specs.History.{History, fresh, noted, handed, taken, historyBy, historyOf}
+use Rattle.demands.specs.History.{History, noHistory, notedStore, handed, taken, historyBy, historyOf}
 use Rattle.demands.specs.InTime.{AtTicks, Prompt}
 use Rattle.demands.specs.PowerCut.{Writes}
 use Rattle.demands.specs.Work.{Real, atWork, Its, Alone, Handed, imageLeft}
 use Rattle.runs.specs.Whole.{
-  Given,
-  Outcome,
+  WholeGiven,
+  WholeOutcome,
   Served,
   asking,
   askedBy,
@@ -78,7 +78,7 @@ goes drive (gives byte tc ∷ calls) c img work off h t =
 goes drive (ticks a b ∷ calls) c img work off h t =
     let d = ruledOf (cond (eqb drive 0) img []) (cond (eqb drive 1) img []) c in
     goes drive calls (d .controller) (storedAs (d .drive) drive (d .effect) img) (work && atWork (c .phase))
-    (off && not (c .fifo .asks)) (noted (d .effect) h) t
+    (off && not (c .fifo .asks)) (notedStore (d .effect) h) t
 goes drive (notes drive′ ∷ calls) c img work off h t =
     goes drive calls (after (notes drive′) c) img (work && atWork (c .phase)) off h t
 
@@ -198,7 +198,7 @@ unfolding Alone
 handing-alone drive p [] c img = tt
 handing-alone drive p (call ∷ calls) c img = λ w. (lent drive p img call, handing-alone drive p calls _ _)
 
-pub real-asked : (x : Given) → byteTests (asking x) ≡ true → Real (askedBy x)
+pub real-asked : (x : WholeGiven) → byteTests (asking x) ≡ true → Real (askedBy x)
 real-asked x t =
     record {
       head0 = x .head0;
@@ -209,26 +209,26 @@ real-asked x t =
     }
 
 -- a run in one pass
-abbrev pub seenIn : Given → Seen
-seenIn x = goes (x .order .drive) (x .does) (askedBy x) (x .img) true true fresh untaken
+abbrev pub seenIn : WholeGiven → Seen
+seenIn x = goes (x .order .drive) (x .does) (askedBy x) (x .img) true true noHistory untaken
 
 pub record Summary : Type 0 where
-  pub outcome : Outcome
+  pub outcome : WholeOutcome
   pub work : Bool
   pub off : Bool
 
-abbrev pub wroteIn : Given → Summary
+abbrev pub wroteIn : WholeGiven → Summary
 wroteIn x =
     let seen = seenIn x in
     record { outcome = wroteOf (seen .now) (seen .history); work = seen .work; off = seen .off }
 
-abbrev pub tookIn : Given → Summary
+abbrev pub tookIn : WholeGiven → Summary
 tookIn x =
     let seen = seenIn x in
     record { outcome = tookOf (seen .now) (seen .took); work = seen .work; off = seen .off }
 
 -- the commands' calls, each tick with the request off or not
-abbrev pub sums : Outcome → Bool → Summary
+abbrev pub sums : WholeOutcome → Bool → Summary
 sums o off = record { outcome = o; work = true; off = off }
 
 -- a Format's
@@ -239,7 +239,7 @@ pub record Formed : Type 0 where
   pub left : List ℕ
   pub work : Bool
 
-abbrev pub formedIn : Given → Formed
+abbrev pub formedIn : WholeGiven → Formed
 formedIn x =
     let seen = seenIn x in
     record {
@@ -254,24 +254,24 @@ abbrev pub forms : List ℕ → List ℕ → List ℕ → Formed
 forms result host left =
     record { phase = Answering true; result = result; host = host; left = left; work = true }
 
-module _ (x : Given) where
-  wrote-in : seenIn x .history ≡ historyOf (callsOf x) (askedBy x) fresh
-  wrote-in = goes-wrote (x .order .drive) (x .does) (askedBy x) (x .img) true true fresh untaken
+module _ (x : WholeGiven) where
+  wrote-in : seenIn x .history ≡ historyOf (callsOf x) (askedBy x) noHistory
+  wrote-in = goes-wrote (x .order .drive) (x .does) (askedBy x) (x .img) true true noHistory untaken
 
   its-in : seenIn x .work ≡ true → Its (callsOf x) (askedBy x)
-  its-in e = goes-its (x .order .drive) (x .does) (askedBy x) (x .img) true true fresh untaken e .1
+  its-in e = goes-its (x .order .drive) (x .does) (askedBy x) (x .img) true true noHistory untaken e .1
 
   pub alone-in : x .order .drive < 2 → Alone (x .order .drive) (x .img) (callsOf x) (askedBy x)
   alone-in p = handing-alone (x .order .drive) p (x .does) (askedBy x) (x .img)
 
   now-in : seenIn x .now ≡ runCalls (callsOf x) (askedBy x)
-  now-in = goes-now (x .order .drive) (x .does) (askedBy x) (x .img) true true fresh untaken
+  now-in = goes-now (x .order .drive) (x .does) (askedBy x) (x .img) true true noHistory untaken
 
   pub left-in : seenIn x .left ≡ imageLeft (x .order .drive) (x .img) (callsOf x) (askedBy x)
-  left-in = goes-left (x .order .drive) (x .does) (askedBy x) (x .img) true true fresh untaken
+  left-in = goes-left (x .order .drive) (x .does) (askedBy x) (x .img) true true noHistory untaken
 
   served-in : seenIn x .off ≡ true → Served x
-  served-in e = goes-off (x .order .drive) (x .does) (askedBy x) (x .img) true true fresh untaken e .1
+  served-in e = goes-off (x .order .drive) (x .does) (askedBy x) (x .img) true true noHistory untaken e .1
 
   pub format-run : (plan : Plan) (result host left : List ℕ) → byteTests (asking x) ≡ true
       → askedBy x .phase ≡ Starting (x .order) → x .order .job ≡ Format plan → diskIn (x .img) ≡ Present (x .disk)
@@ -291,7 +291,7 @@ module _ (x : Given) where
         left-is = sym left-in ∙ ap (λ (s : Formed). s .left) e;
       }
 
-module _ (x : Given) (o : Outcome) (transfer : Transfer) (id : Id) where
+module _ (x : WholeGiven) (o : WholeOutcome) (transfer : Transfer) (id : Id) where
   pub write-run : (off : Bool) → byteTests (asking x) ≡ true → Writes (askedBy x) (x .order) transfer id
       → diskIn (x .img) ≡ Present (x .disk) → x .order .drive < 2 → wroteIn x ≡ sums o off → WriteRun x o
   write-run off bytes accepted mounted p e =
@@ -309,7 +309,7 @@ module _ (x : Given) (o : Outcome) (transfer : Transfer) (id : Id) where
   pub read-run : (off : Bool) → byteTests (asking x) ≡ true → Reads (askedBy x) (x .order) transfer id
       → diskIn (x .img) ≡ Present (x .disk) → x .order .drive < 2 → tookIn x ≡ sums o off → ReadRun x o
   read-run off bytes accepted mounted p e =
-      let took = goes-took (x .order .drive) (x .does) (askedBy x) (x .img) true true fresh untaken in
+      let took = goes-took (x .order .drive) (x .does) (askedBy x) (x .img) true true noHistory untaken in
       record {
         real = real-asked x bytes;
         transfer = transfer;
@@ -321,23 +321,23 @@ module _ (x : Given) (o : Outcome) (transfer : Transfer) (id : Id) where
         outcome = sym (ap₂ tookOf (now-in x) took) ∙ ap (λ (s : Summary). s .outcome) e;
       }
 
-pub write-served : (x : Given) (o : Outcome) → wroteIn x ≡ sums o true → Served x
+pub write-served : (x : WholeGiven) (o : WholeOutcome) → wroteIn x ≡ sums o true → Served x
 write-served x o e = served-in x (ap (λ (s : Summary). s .off) e)
 
-pub read-served : (x : Given) (o : Outcome) → tookIn x ≡ sums o true → Served x
+pub read-served : (x : WholeGiven) (o : WholeOutcome) → tookIn x ≡ sums o true → Served x
 read-served x o e = served-in x (ap (λ (s : Summary). s .off) e)
 
 -- so the theorems speak of each of them
-pub write-acknowledged : (x : Given) (o : Outcome) (w : WriteRun x o) → o .phase ≡ Answering true
+pub write-acknowledged : (x : WholeGiven) (o : WholeOutcome) (w : WriteRun x o) → o .phase ≡ Answering true
     → Acknowledges (x .disk) (w .transfer) (record { id = w .id; side = x .order .side })
-    (historyOf (callsOf x) (askedBy x) fresh) (resultByte 0 (runCalls (callsOf x) (askedBy x)))
+    (historyOf (callsOf x) (askedBy x) noHistory) (resultByte 0 (runCalls (callsOf x) (askedBy x)))
     (resultByte 1 (runCalls (callsOf x) (askedBy x))) (resultByte 2 (runCalls (callsOf x) (askedBy x)))
     (resultId (runCalls (callsOf x) (askedBy x)))
 write-acknowledged x o w e =
     acknowledged (askedBy x) (w .real) (x .order) (w .transfer) (w .id) (w .accepted) (x .img) (x .disk) (w .mounted)
-    (callsOf x) (w .its) (w .alone) (ap (λ (s : Outcome). s .phase) (w .outcome) ∙ e)
+    (callsOf x) (w .its) (w .alone) (ap (λ (s : WholeOutcome). s .phase) (w .outcome) ∙ e)
 
-pub read-handed : (x : Given) (o : Outcome) (r : ReadRun x o)
+pub read-handed : (x : WholeGiven) (o : WholeOutcome) (r : ReadRun x o)
     → HandedBy (askedBy x) (runCalls (callsOf x) (askedBy x)) (x .order) (r .transfer) (r .id) (x .disk) (x .img)
     (imageLeft (x .order .drive) (x .img) (callsOf x) (askedBy x)) (takenOver (callsOf x) (askedBy x) untaken)
 read-handed x o r =

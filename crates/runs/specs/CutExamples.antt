@@ -21,7 +21,7 @@ use Rattle.fdc.specs.declared.record.Controller.{Controller}
 use Rattle.reached.specs.Examples.{start, command, readied}
 use Rattle.reached.specs.Runs.{Call, writes, gives, ticks, answerTo, after, runCalls}
 use Rattle.fdc.specs.Ticks.{imageAfter}
-use Rattle.demands.specs.History.{no-one, some-of, History, fresh, taken, historyOf}
+use Rattle.demands.specs.History.{no-one, some-of, History, noHistory, taken, historyOf}
 use Rattle.demands.specs.PowerCut.{Writes}
 use Rattle.demands.specs.Work.{Real, Its, Alone}
 
@@ -79,7 +79,7 @@ pub record CutExample (dma : Bool) (host : List ℕ) (n : ℕ) (h : History) : T
   pub mounted : diskIn (sample 2) ≡ Present (disk 1 1 2 1)
   pub its : Its (cutCalls dma host n) (writer dma)
   pub alone : Alone 0 (sample 2) (cutCalls dma host n) (writer dma)
-  pub history : historyOf (cutCalls dma host n) (writer dma) fresh ≡ h
+  pub history : historyOf (cutCalls dma host n) (writer dma) noHistory ≡ h
 
 pub record CutExamples : Type 0 where
   -- the tests, the look, the broken mark and 99 bytes: 01 Example 10

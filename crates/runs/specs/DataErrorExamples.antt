@@ -22,7 +22,7 @@ use Rattle.fdc.specs.Ticks.{imageAfter}
 use Rattle.runs.specs.CutExamples.{writer, written, sectorOne, ordered, cutCalls, full}
 use Rattle.demands.specs.DataError.{ReadsIt, Spins, DataErrorOrLate, DataErrorAt}
 use Rattle.demands.specs.EndsInTime.{boundOf}
-use Rattle.demands.specs.History.{some-of, fresh, historyOf}
+use Rattle.demands.specs.History.{some-of, noHistory, historyOf}
 use Rattle.demands.specs.InTime.{Prompt}
 use Rattle.demands.specs.PowerCut.{Writes}
 use Rattle.demands.specs.Work.{Real, Its, Alone, imageLeft, Ends}
@@ -68,7 +68,7 @@ pub record DataErrorExample : Type 0 where
   pub sound : Sound (disk 1 1 2 1) (sample 2)
   pub its : Its wrote (writer true)
   pub alone : Alone 0 (sample 2) wrote (writer true)
-  pub begun : historyOf wrote (writer true) fresh .begun ≡ some-of 274 (take 10 (drop 256 full))
+  pub begun : historyOf wrote (writer true) noHistory .begun ≡ some-of 274 (take 10 (drop 256 full))
   pub reader-real : Real reader
   pub reader-reads : ReadsIt reader readOrder read sectorTwo (disk 1 1 2 1) written (sample 2) 274
   pub spins : Spins 0 readCalls reader

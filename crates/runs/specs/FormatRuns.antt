@@ -1,5 +1,5 @@
 -- The Format of FormatExamples, SC 1 on a track of two slots, meets all premises of `FormatServed`, `FormatSucceeds`,
--- `FormatNeverLate` and `FormatScript` (01 Format): it is in time, ends with IC 00, and the image left is its whole
+-- `FormatNeverLate` and `FormatScript` (01 Format): it is in time, ends with IC 00, and the image formatLeft is its whole
 -- script applied.
 -- Assumes nothing.
 use Prim.Native.Nat.{ℕ, _≤_}
@@ -14,17 +14,17 @@ use Rattle.demands.specs.DataError.{Spins}
 use Rattle.demands.specs.EndsInTime.{boundOf}
 use Rattle.demands.specs.FormatScript.{Formats, Stored, applied, scriptOf, storesOf, Allowed, FormattedBy}
 use Rattle.demands.specs.FormatSucceeds.{ServedUpTo, Formatted}
-use Rattle.demands.specs.History.{fresh}
+use Rattle.demands.specs.History.{noHistory}
 use Rattle.demands.specs.InTime.{InTime}
 use Rattle.demands.specs.PowerCut.{headOf}
 use Rattle.demands.specs.Work.{Alone, Ends}
-use Rattle.runs.specs.FormatExamples.{one, left}
+use Rattle.runs.specs.FormatExamples.{one, formatLeft}
 use Rattle.runs.specs.Host.{double}
 use Rattle.runs.specs.PromptRuns.{longer}
-use Rattle.runs.specs.Whole.{Given, askedBy, callsOf}
+use Rattle.runs.specs.Whole.{WholeGiven, askedBy, callsOf}
 
 -- the bound's ticks
-abbrev pub longOne : Given
+abbrev pub longOne : WholeGiven
 longOne = longer 1716 one
 
 abbrev pub plan : Plan
@@ -42,7 +42,7 @@ pub record FormatRuns : Type 0 where
   pub allowed : Allowed (disk 1 1 2 1) (headOf (one .order) (askedBy one)) 0 plan
   pub spins : Spins 1 (callsOf longOne) (askedBy one)
   pub alone : Alone 1 (double 1) (callsOf longOne) (askedBy one)
-  pub served : ServedUpTo 4 (callsOf longOne) (askedBy one) fresh
+  pub served : ServedUpTo 4 (callsOf longOne) (askedBy one) noHistory
   pub enough : boundOf (disk 1 1 2 1) ≤ tickCount (callsOf longOne)
   -- so it is in time, and succeeds
   pub in-time : InTime (callsOf longOne) (askedBy one)
@@ -53,5 +53,5 @@ pub record FormatRuns : Type 0 where
   pub stores : storesOf (callsOf one) (askedBy one) 0 ≡ 263
   pub size : length script ≡ 263
   pub formatted :
-      FormattedBy (disk 1 1 2 1) 0 1 0 plan address 263 (double 1) left (runCalls (callsOf one) (askedBy one))
-  pub whole : left ≡ applied script (double 1)
+      FormattedBy (disk 1 1 2 1) 0 1 0 plan address 263 (double 1) formatLeft (runCalls (callsOf one) (askedBy one))
+  pub whole : formatLeft ≡ applied script (double 1)

@@ -15,8 +15,8 @@ use Rattle.reached.specs.Runs.{Call, reads, takes, gives}
 use Rattle.runs.specs.CutExamples.{down}
 
 -- a read or a write of a drive and side, from the sector C H R N on
-abbrev pub moving : ℕ → ℕ → Transfer → ℕ → ℕ → ℕ → ℕ → Order
-moving drive side transfer c h r n =
+abbrev pub orderOf : ℕ → ℕ → Transfer → ℕ → ℕ → ℕ → ℕ → Order
+orderOf drive side transfer c h r n =
     record { drive = drive; side = side; job = Move transfer (record { c = c; h = h; r = r; n = n }) }
 
 -- so many ticks
@@ -24,10 +24,10 @@ abbrev pub idle : ℕ → List Call
 idle zero = []
 idle (suc n) = bare ∷ idle n
 
--- so many bytes taken, by DMA and by port 5
-abbrev pub taken : ℕ → List Call
-taken zero = []
-taken (suc n) = takes false ∷ taken n
+-- so many bytes takenCalls, by DMA and by port 5
+abbrev pub takenCalls : ℕ → List Call
+takenCalls zero = []
+takenCalls (suc n) = takes false ∷ takenCalls n
 
 abbrev pub fetched : ℕ → List Call
 fetched zero = []

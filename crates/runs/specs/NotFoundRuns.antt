@@ -19,11 +19,11 @@ use Rattle.demands.specs.InTime.{Transfers}
 use Rattle.demands.specs.NotFound.{Missing, Misses}
 use Rattle.demands.specs.PowerCut.{headOf}
 use Rattle.demands.specs.Work.{Real, Alone, Ends}
-use Rattle.runs.specs.Host.{moving, idle, double}
-use Rattle.runs.specs.Whole.{Given, askedBy, callsOf}
+use Rattle.runs.specs.Host.{orderOf, idle, double}
+use Rattle.runs.specs.Whole.{WholeGiven, askedBy, callsOf}
 
-abbrev pub sought : Id
-sought = record { c = 5; h = 0; r = 1; n = 1 }
+abbrev pub soughtId : Id
+soughtId = record { c = 5; h = 0; r = 1; n = 1 }
 
 abbrev pub seeking : Transfer
 seeking = record { pass = Read; deleted = false; mt = false; sk = false; eot = 2; dtl = 0 }
@@ -33,7 +33,7 @@ abbrev pub strange : List ℕ
 strange = set (double 1) 14 0xFF
 
 -- drive 1, with the bound's ticks
-abbrev pub absent : Given
+abbrev pub absent : WholeGiven
 absent =
     record {
       head0 = 0;
@@ -42,7 +42,7 @@ absent =
       config = 0x07;
       spec = 0x02;
       bytes = 0x46 ∷ 0x01 ∷ 5 ∷ 0 ∷ 1 ∷ 1 ∷ 2 ∷ 0x1B ∷ 0xFF ∷ [];
-      order = moving 1 0 seeking 5 0 1 1;
+      order = orderOf 1 0 seeking 5 0 1 1;
       disk = disk 1 1 2 1;
       img = strange;
       does = idle 1980;
@@ -50,10 +50,10 @@ absent =
 
 pub record NotFoundRun : Type 0 where
   pub real : Real (askedBy absent)
-  pub accepted : Transfers (askedBy absent) (absent .order) seeking sought
+  pub accepted : Transfers (askedBy absent) (absent .order) seeking soughtId
   pub mounted : diskIn strange ≡ Present (disk 1 1 2 1)
-  pub missing : Missing (disk 1 1 2 1) strange (headOf (absent .order) (askedBy absent)) 0 seeking sought
+  pub missing : Missing (disk 1 1 2 1) strange (headOf (absent .order) (askedBy absent)) 0 seeking soughtId
   pub spins : Spins 1 (callsOf absent) (askedBy absent)
   pub alone : Alone 1 strange (callsOf absent) (askedBy absent)
   pub enough : boundOf (disk 1 1 2 1) ≤ tickCount (callsOf absent)
-  pub ends : Ends (Misses (absent .order) sought true true true) (callsOf absent) (askedBy absent)
+  pub ends : Ends (Misses (absent .order) soughtId true true true) (callsOf absent) (askedBy absent)

@@ -19,14 +19,14 @@ use Rattle.demands.specs.Work.{Alone, imageLeft}
 use Rattle.runs.specs.AckExamples.{writing}
 use Rattle.runs.specs.CutExamples.{down}
 use Rattle.runs.specs.HandedExamples.{reading}
-use Rattle.runs.specs.Host.{moving, idle, taken, poured, times, imageOf, double}
-use Rattle.runs.specs.Whole.{Given, Outcome, askedBy, callsOf, waiting, WriteRun, ReadRun, Served}
+use Rattle.runs.specs.Host.{orderOf, idle, takenCalls, poured, times, imageOf, double}
+use Rattle.runs.specs.Whole.{WholeGiven, WholeOutcome, askedBy, callsOf, waiting, WriteRun, ReadRun, Served}
 
 -- FIFO on with FIFOTHR 7, DMA, sectors 1 and 2
 abbrev pub first : List ℕ
 first = down 16 ++ times 30 (down 8)
 
-abbrev pub wrote : Given
+abbrev pub wrote : WholeGiven
 wrote =
     record {
       head0 = 0;
@@ -35,7 +35,7 @@ wrote =
       config = 0x07;
       spec = 0x02;
       bytes = 0x45 ∷ 0 ∷ 0 ∷ 0 ∷ 1 ∷ 1 ∷ 2 ∷ 0x1B ∷ 0xFF ∷ [];
-      order = moving 0 0 (writing false false 2) 0 0 1 1;
+      order = orderOf 0 0 (writing false false 2) 0 0 1 1;
       disk = disk 1 1 2 1;
       img = double 1;
       does =
@@ -44,7 +44,7 @@ wrote =
           ++ (times 30 (idle 8 ++ poured false (down 8)) ++ (idle 8 ++ (poured true (down 4) ++ idle 268))));
     }
 
-abbrev pub wroteEnd : Outcome
+abbrev pub wroteEnd : WholeOutcome
 wroteEnd =
     waiting (0x00 ∷ 0x00 ∷ 0x00 ∷ 1 ∷ 0 ∷ 1 ∷ 1 ∷ []) true (first ++ down 4)
     (record { at = 274; bytes = down 4 ++ replicate 252 0 } ∷ record { at = 13; bytes = first } ∷ []) no-one
@@ -55,7 +55,7 @@ left =
     (0x02 ∷ 0x02 ∷ 0x0C ∷ 0 ∷ 0 ∷ (1 ∷ 0 ∷ 0 ∷ 1 ∷ 1 ∷ first) ++ (1 ∷ 0 ∷ 0 ∷ 2 ∷ 1 ∷ down 4 ++ replicate 252 0))
 
 -- the same box, switched on anew
-abbrev pub back : Given
+abbrev pub back : WholeGiven
 back =
     record {
       head0 = 0;
@@ -64,17 +64,17 @@ back =
       config = 0x07;
       spec = 0x02;
       bytes = 0x46 ∷ 0 ∷ 0 ∷ 0 ∷ 1 ∷ 1 ∷ 2 ∷ 0x1B ∷ 0xFF ∷ [];
-      order = moving 0 0 (reading false false false 2) 0 0 1 1;
+      order = orderOf 0 0 (reading false false false 2) 0 0 1 1;
       disk = disk 1 1 2 1;
       img = left;
-      does = idle 2 ++ (times 32 (idle 8 ++ taken 8) ++ (idle 2 ++ (idle 8 ++ (taken 3 ++ (takes true ∷ idle 249)))));
+      does = idle 2 ++ (times 32 (idle 8 ++ takenCalls 8) ++ (idle 2 ++ (idle 8 ++ (takenCalls 3 ++ (takes true ∷ idle 249)))));
     }
 
-abbrev pub backEnd : Outcome
+abbrev pub backEnd : WholeOutcome
 backEnd = waiting (0x00 ∷ 0x00 ∷ 0x00 ∷ 1 ∷ 0 ∷ 1 ∷ 1 ∷ []) true (first ++ down 4) [] no-one
 
 -- and so many ticks more
-abbrev pub longer : ℕ → Given → Given
+abbrev pub longer : ℕ → WholeGiven → WholeGiven
 longer n x =
     record {
       head0 = x .head0;
@@ -89,7 +89,7 @@ longer n x =
       does = x .does ++ idle n;
     }
 
-pub record LongRun (x : Given) : Type 0 where
+pub record LongRun (x : WholeGiven) : Type 0 where
   pub spins : Spins (x .order .drive) (callsOf x) (askedBy x)
   pub served : Served x
   pub alone : Alone (x .order .drive) (x .img) (callsOf x) (askedBy x)

@@ -11,7 +11,7 @@ use Rattle.image.specs.declared.slot.Id.{Id}
 use Rattle.image.specs.Disk.{diskIn}
 use Rattle.image.specs.Examples.{disk}
 use Rattle.sectors.specs.declared.order.Job.the-variants.{Identify}
-use Rattle.engine.specs.Examples.{chr}
+use Rattle.engine.specs.Examples.{chrnOf}
 use Rattle.reached.specs.Moves.{tickCount}
 use Rattle.demands.specs.DataError.{Spins}
 use Rattle.demands.specs.EndsInTime.{boundOf}
@@ -20,10 +20,10 @@ use Rattle.demands.specs.ReadIdGives.{Identifies, FirstId, NoId, Gives}
 use Rattle.demands.specs.Work.{Real, Alone, Ends}
 use Rattle.answers.specs.Results.{zeros}
 use Rattle.runs.specs.Host.{idle, double}
-use Rattle.runs.specs.Whole.{Given, askedBy, callsOf}
+use Rattle.runs.specs.Whole.{WholeGiven, askedBy, callsOf}
 
 -- drive 1, with the bound's ticks: 2 x 3 x (2 x 2 + 256 + 70) = 1980
-abbrev pub identifying : List ℕ → Given
+abbrev pub identifying : List ℕ → WholeGiven
 identifying img =
     record {
       head0 = 0;
@@ -39,14 +39,14 @@ identifying img =
     }
 
 -- slot 1 has C 0 H 0 R 2 N 1; both marks 0
-abbrev pub second : Given
+abbrev pub second : WholeGiven
 second = identifying (double 0)
 
-abbrev pub neither : Given
-neither = identifying (set (double 0) 274 0)
+abbrev pub neitherId : WholeGiven
+neitherId = identifying (set (double 0) 274 0)
 
 -- the premises beside the track's, and the end
-pub record ReadIdRun (x : Given) (normal : Bool) (st1 : ℕ) (id : Id) : Type 0 where
+pub record ReadIdRun (x : WholeGiven) (normal : Bool) (st1 : ℕ) (id : Id) : Type 0 where
   pub real : Real (askedBy x)
   pub accepted : Identifies (askedBy x) (x .order)
   pub mounted : diskIn (x .img) ≡ Present (x .disk)
@@ -57,6 +57,6 @@ pub record ReadIdRun (x : Given) (normal : Bool) (st1 : ℕ) (id : Id) : Type 0 
 
 pub record ReadIdRuns : Type 0 where
   pub first : FirstId (disk 1 1 2 1) (double 0) (headOf (second .order) (askedBy second)) 0 1
-  pub given : ReadIdRun second true 0x00 (chr 0 0 2)
-  pub none : NoId (disk 1 1 2 1) (set (double 0) 274 0) (headOf (neither .order) (askedBy neither)) 0
-  pub nothing : ReadIdRun neither false 0x01 zeros
+  pub given : ReadIdRun second true 0x00 (chrnOf 0 0 2)
+  pub none : NoId (disk 1 1 2 1) (set (double 0) 274 0) (headOf (neitherId .order) (askedBy neitherId)) 0
+  pub nothing : ReadIdRun neitherId false 0x01 zeros

@@ -8,7 +8,7 @@ use mathlib.Core.List.{List, [], _∷_, _++_}
 use lib.ListN.{set}
 use Rattle.image.specs.declared.slot.Id.{Id}
 use Rattle.image.specs.Examples.{sample}
-use Rattle.engine.specs.Examples.{chr}
+use Rattle.engine.specs.Examples.{chrnOf}
 use Rattle.fdc.specs.declared.record.Controller.{Controller}
 use Rattle.fdc.specs.Calls.{powerOn}
 use Rattle.reached.specs.Examples.{command, readied}
@@ -16,8 +16,8 @@ use Rattle.reached.specs.Runs.{Call, takes, gives, ticks, after, runCalls}
 use Rattle.answers.specs.Results.{Result, zeros}
 
 -- power-on with the head of drive 0 there, motor 0 on, Configure, the calls of a command, and what follows them
-abbrev pub given : List ℕ → List Call → List Call
-given bytes calls = readied 0x1C ++ (command bytes ++ calls)
+abbrev pub rowGiven : List ℕ → List Call → List Call
+rowGiven bytes calls = readied 0x1C ++ (command bytes ++ calls)
 
 abbrev pub box : ℕ → List Call → Controller
 box head calls = runCalls calls (powerOn head 0 .controller)
@@ -27,14 +27,14 @@ abbrev pub on : ℕ → List ℕ → List Call
 on zero img = []
 on (suc n) img = ticks img [] ∷ on n img
 
-abbrev pub reading : ℕ → List ℕ → List Call
-reading zero img = []
-reading (suc n) img = ticks img [] ∷ takes false ∷ reading n img
+abbrev pub rowReading : ℕ → List ℕ → List Call
+rowReading zero img = []
+rowReading (suc n) img = ticks img [] ∷ takes false ∷ rowReading n img
 
--- and with a byte given before each
-abbrev pub writing : ℕ → List ℕ → List Call
-writing zero img = []
-writing (suc n) img = gives 0xA5 false ∷ ticks img [] ∷ writing n img
+-- and with a byte rowGiven before each
+abbrev pub rowWriting : ℕ → List ℕ → List Call
+rowWriting zero img = []
+rowWriting (suc n) img = gives 0xA5 false ∷ ticks img [] ∷ rowWriting n img
 
 -- C 0 H 0 R N 1, EOT, GPL, DTL; N, SC, GPL, D
 abbrev pub move : ℕ → ℕ → ℕ → List ℕ
@@ -48,70 +48,70 @@ abbrev pub marks : ℕ → ℕ → List ℕ
 marks first second = set (set (sample 2) 13 first) 274 second
 
 -- the result in the tick after these calls
-abbrev pub Ends : ℕ → List Call → List ℕ → ℕ → ℕ → ℕ → Id → Type 0
-Ends head calls img st0 st1 st2 id = Result (after (ticks img []) (box head calls)) st0 st1 st2 id
+abbrev pub RowEnds : ℕ → List Call → List ℕ → ℕ → ℕ → ℕ → Id → Type 0
+RowEnds head calls img st0 st1 st2 id = Result (after (ticks img []) (box head calls)) st0 st1 st2 id
 
 pub record RowRuns : Type 0 where
   -- 01 Data commands: the first tick
-  pub empty : Ends 0 (given (move 0x46 1 2) []) [] 0x40 0x01 0x00 (chr 0 0 1)
-  pub no-track : Ends 5 (given (move 0x46 1 2) []) (marks 1 1) 0x40 0x01 0x00 (chr 0 0 1)
-  pub protected : Ends 0 (given (move 0x45 1 2) []) (set (marks 1 1) 7 1) 0x40 0x02 0x00 (chr 0 0 1)
-  pub misplanned : Ends 0 (given (format 3) []) (marks 1 1) 0x40 0x04 0x00 (chr 0 0 0)
+  pub empty : RowEnds 0 (rowGiven (move 0x46 1 2) []) [] 0x40 0x01 0x00 (chrnOf 0 0 1)
+  pub no-track : RowEnds 5 (rowGiven (move 0x46 1 2) []) (marks 1 1) 0x40 0x01 0x00 (chrnOf 0 0 1)
+  pub protected : RowEnds 0 (rowGiven (move 0x45 1 2) []) (set (marks 1 1) 7 1) 0x40 0x02 0x00 (chrnOf 0 0 1)
+  pub misplanned : RowEnds 0 (rowGiven (format 3) []) (marks 1 1) 0x40 0x04 0x00 (chrnOf 0 0 0)
   -- 01 Search
-  pub no-id : Ends 0 (given (move 0x46 1 2) (on 4 (marks 0 0))) (marks 0 0) 0x40 0x01 0x00 (chr 0 0 1)
-  pub others-met : Ends 0 (given (move 0x46 3 4) (on 4 (marks 1 0))) (marks 1 0) 0x40 0x04 0x00 (chr 0 0 3)
-  pub other-id : Ends 0 (given (move 0x46 3 4) (on 4 (marks 1 1))) (marks 1 1) 0x40 0x04 0x00 (chr 0 0 3)
-  pub no-data : Ends 0 (given (move 0x46 1 2) (on 1 (marks 5 1))) (marks 5 1) 0x40 0x01 0x01 (chr 0 0 1)
+  pub no-id : RowEnds 0 (rowGiven (move 0x46 1 2) (on 4 (marks 0 0))) (marks 0 0) 0x40 0x01 0x00 (chrnOf 0 0 1)
+  pub others-met : RowEnds 0 (rowGiven (move 0x46 3 4) (on 4 (marks 1 0))) (marks 1 0) 0x40 0x04 0x00 (chrnOf 0 0 3)
+  pub other-id : RowEnds 0 (rowGiven (move 0x46 3 4) (on 4 (marks 1 1))) (marks 1 1) 0x40 0x04 0x00 (chrnOf 0 0 3)
+  pub no-data : RowEnds 0 (rowGiven (move 0x46 1 2) (on 1 (marks 5 1))) (marks 5 1) 0x40 0x01 0x01 (chrnOf 0 0 1)
   pub no-side :
-      Ends 0 (given (move 0xC6 1 1) (on 2 (marks 1 1) ++ (reading 256 (marks 1 1) ++ on 1 (marks 1 1)))) (marks 1 1)
-      0x44 0x01 0x00 (chr 0 1 1)
+      RowEnds 0 (rowGiven (move 0xC6 1 1) (on 2 (marks 1 1) ++ (rowReading 256 (marks 1 1) ++ on 1 (marks 1 1)))) (marks 1 1)
+      0x44 0x01 0x00 (chrnOf 0 1 1)
   -- 01 Read
-  pub overrun : Ends 0 (given (move 0x46 1 2) (on 3 (marks 1 1))) (marks 1 1) 0x40 0x10 0x00 (chr 0 0 1)
+  pub overrun : RowEnds 0 (rowGiven (move 0x46 1 2) (on 3 (marks 1 1))) (marks 1 1) 0x40 0x10 0x00 (chrnOf 0 0 1)
   pub not-taken :
-      Ends 0 (given (move 0x46 1 2) (on 2 (marks 1 1) ++ (reading 255 (marks 1 1) ++ on 64 (marks 1 1)))) (marks 1 1)
-      0x40 0x10 0x00 (chr 0 0 1)
+      RowEnds 0 (rowGiven (move 0x46 1 2) (on 2 (marks 1 1) ++ (rowReading 255 (marks 1 1) ++ on 64 (marks 1 1)))) (marks 1 1)
+      0x40 0x10 0x00 (chrnOf 0 0 1)
   pub data-error :
-      Ends 0 (given (move 0x46 1 2) (on 2 (marks 3 1) ++ reading 256 (marks 3 1))) (marks 3 1)
-      0x40 0x20 0x20 (chr 0 0 1)
+      RowEnds 0 (rowGiven (move 0x46 1 2) (on 2 (marks 3 1) ++ rowReading 256 (marks 3 1))) (marks 3 1)
+      0x40 0x20 0x20 (chrnOf 0 0 1)
   pub other-kind :
-      Ends 0 (given (move 0x46 1 2) (on 2 (marks 2 1) ++ reading 256 (marks 2 1))) (marks 2 1)
-      0x00 0x00 0x40 (chr 0 0 1)
+      RowEnds 0 (rowGiven (move 0x46 1 2) (on 2 (marks 2 1) ++ rowReading 256 (marks 2 1))) (marks 2 1)
+      0x00 0x00 0x40 (chrnOf 0 0 1)
   -- 01 Write
-  pub no-byte : Ends 0 (given (move 0x45 1 2) (on 65 (marks 1 1))) (marks 1 1) 0x40 0x10 0x00 (chr 0 0 1)
+  pub no-byte : RowEnds 0 (rowGiven (move 0x45 1 2) (on 65 (marks 1 1))) (marks 1 1) 0x40 0x10 0x00 (chrnOf 0 0 1)
   pub underrun :
-      Ends 0 (given (move 0x45 1 2) (on 2 (marks 1 1) ++ (writing 1 (marks 1 1) ++ on 1 (marks 1 1)))) (marks 1 1)
-      0x40 0x10 0x00 (chr 0 0 1)
+      RowEnds 0 (rowGiven (move 0x45 1 2) (on 2 (marks 1 1) ++ (rowWriting 1 (marks 1 1) ++ on 1 (marks 1 1)))) (marks 1 1)
+      0x40 0x10 0x00 (chrnOf 0 0 1)
   -- 01 Next: with TC, past EOT, and a skip at EOT
   pub by-tc :
-      Ends 0
-      (given (move 0x46 1 2) (on 2 (marks 1 1) ++ (ticks (marks 1 1) [] ∷ takes true ∷ on 255 (marks 1 1))))
-      (marks 1 1) 0x00 0x00 0x00 (chr 0 0 2)
+      RowEnds 0
+      (rowGiven (move 0x46 1 2) (on 2 (marks 1 1) ++ (ticks (marks 1 1) [] ∷ takes true ∷ on 255 (marks 1 1))))
+      (marks 1 1) 0x00 0x00 0x00 (chrnOf 0 0 2)
   pub stored :
-      Ends 0 (given (move 0x45 1 2) (on 2 (marks 1 1) ++ (gives 0xA5 true ∷ on 257 (marks 1 1)))) (marks 1 1)
-      0x00 0x00 0x00 (chr 0 0 2)
+      RowEnds 0 (rowGiven (move 0x45 1 2) (on 2 (marks 1 1) ++ (gives 0xA5 true ∷ on 257 (marks 1 1)))) (marks 1 1)
+      0x00 0x00 0x00 (chrnOf 0 0 2)
   pub past-eot :
-      Ends 0 (given (move 0x46 1 1) (on 2 (marks 1 1) ++ reading 256 (marks 1 1))) (marks 1 1)
-      0x40 0x80 0x00 (chr 1 0 1)
-  pub skipped : Ends 0 (given (move 0x66 1 1) (on 1 (marks 2 1))) (marks 2 1) 0x40 0x80 0x40 (chr 1 0 1)
+      RowEnds 0 (rowGiven (move 0x46 1 1) (on 2 (marks 1 1) ++ rowReading 256 (marks 1 1))) (marks 1 1)
+      0x40 0x80 0x00 (chrnOf 1 0 1)
+  pub skipped : RowEnds 0 (rowGiven (move 0x66 1 1) (on 1 (marks 2 1))) (marks 2 1) 0x40 0x80 0x40 (chrnOf 1 0 1)
   -- 01 Read ID
-  pub found : Ends 0 (given (0x4A ∷ 0 ∷ []) (on 1 (marks 1 1))) (marks 1 1) 0x00 0x00 0x00 (chr 0 0 1)
-  pub none : Ends 0 (given (0x4A ∷ 0 ∷ []) (on 4 (marks 0 0))) (marks 0 0) 0x40 0x01 0x00 zeros
+  pub found : RowEnds 0 (rowGiven (0x4A ∷ 0 ∷ []) (on 1 (marks 1 1))) (marks 1 1) 0x00 0x00 0x00 (chrnOf 0 0 1)
+  pub none : RowEnds 0 (rowGiven (0x4A ∷ 0 ∷ []) (on 4 (marks 0 0))) (marks 0 0) 0x40 0x01 0x00 zeros
   -- 01 Format
-  pub form-no-byte : Ends 0 (given (format 2) (on 64 (marks 1 1))) (marks 1 1) 0x40 0x10 0x00 (chr 0 0 0)
+  pub form-no-byte : RowEnds 0 (rowGiven (format 2) (on 64 (marks 1 1))) (marks 1 1) 0x40 0x10 0x00 (chrnOf 0 0 0)
   pub form-missing :
-      Ends 0 (given (format 2) (on 1 (marks 1 1) ++ (writing 1 (marks 1 1) ++ on 1 (marks 1 1)))) (marks 1 1)
-      0x40 0x10 0x00 (chr 0 0 0)
+      RowEnds 0 (rowGiven (format 2) (on 1 (marks 1 1) ++ (rowWriting 1 (marks 1 1) ++ on 1 (marks 1 1)))) (marks 1 1)
+      0x40 0x10 0x00 (chrnOf 0 0 0)
   pub form-filled :
-      Ends 0
-      (given (format 2)
+      RowEnds 0
+      (rowGiven (format 2)
       (on 1 (marks 1 1)
-      ++ (writing 5 (marks 1 1) ++ (on 257 (marks 1 1) ++ (writing 5 (marks 1 1) ++ on 256 (marks 1 1))))))
-      (marks 1 1) 0x00 0x00 0x00 (chr 0 0 2)
+      ++ (rowWriting 5 (marks 1 1) ++ (on 257 (marks 1 1) ++ (rowWriting 5 (marks 1 1) ++ on 256 (marks 1 1))))))
+      (marks 1 1) 0x00 0x00 0x00 (chrnOf 0 0 2)
   pub form-cleared :
-      Ends 0
-      (given (format 1) (on 1 (marks 1 1) ++ (writing 5 (marks 1 1) ++ on 257 (marks 1 1)))) (marks 1 1)
-      0x00 0x00 0x00 (chr 0 0 1)
+      RowEnds 0
+      (rowGiven (format 1) (on 1 (marks 1 1) ++ (rowWriting 5 (marks 1 1) ++ on 257 (marks 1 1)))) (marks 1 1)
+      0x00 0x00 0x00 (chrnOf 0 0 1)
   -- 01 Data commands: emptied later
-  pub lost : Ends 0 (given (move 0x46 1 2) (on 1 (marks 1 1))) [] 0x40 0x01 0x00 (chr 0 0 1)
-  pub lost-id : Ends 0 (given (0x4A ∷ 0 ∷ []) (on 1 (marks 1 1))) [] 0x40 0x01 0x00 zeros
-  pub lost-format : Ends 0 (given (format 2) (on 1 (marks 1 1))) [] 0x40 0x01 0x00 (chr 0 0 0)
+  pub lost : RowEnds 0 (rowGiven (move 0x46 1 2) (on 1 (marks 1 1))) [] 0x40 0x01 0x00 (chrnOf 0 0 1)
+  pub lost-id : RowEnds 0 (rowGiven (0x4A ∷ 0 ∷ []) (on 1 (marks 1 1))) [] 0x40 0x01 0x00 zeros
+  pub lost-format : RowEnds 0 (rowGiven (format 2) (on 1 (marks 1 1))) [] 0x40 0x01 0x00 (chrnOf 0 0 0)

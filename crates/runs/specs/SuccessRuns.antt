@@ -4,9 +4,9 @@
 use mathlib.Core.Bool.{false}
 use Rattle.image.specs.Examples.{disk}
 use Rattle.demands.specs.HandedOver.{untaken}
-use Rattle.demands.specs.History.{fresh}
+use Rattle.demands.specs.History.{noHistory}
 use Rattle.demands.specs.PowerCut.{aimNo, headOf}
-use Rattle.demands.specs.ReadSucceeds.{AsTaken, ReadTells, AllGood, Untold}
+use Rattle.demands.specs.ReadSucceeds.{AsTaken, ReadTells, AllGood, UntoldRead}
 use Rattle.demands.specs.Succeeds.{Writable, AllThere, Fill, WriteTells, Success, LastOne, PastEot}
 use Rattle.demands.specs.Work.{Ends}
 use Rattle.runs.specs.AckExamples.{writing}
@@ -14,16 +14,16 @@ use Rattle.runs.specs.HandedExamples.{reading, pastEot}
 use Rattle.runs.specs.Host.{double}
 use Rattle.runs.specs.PromptRuns.{wrote, left, back, longer, LongRun}
 use Rattle.runs.specs.SucceedsExamples.{fromOne}
-use Rattle.runs.specs.Whole.{Given, askedBy, callsOf}
+use Rattle.runs.specs.Whole.{WholeGiven, askedBy, callsOf}
 
 -- the bound's ticks
-abbrev pub longWrite : Given
+abbrev pub longWrite : WholeGiven
 longWrite = longer 1461 wrote
 
-abbrev pub longRead : Given
+abbrev pub longRead : WholeGiven
 longRead = longer 1463 back
 
-abbrev pub longEot : Given
+abbrev pub longEot : WholeGiven
 longEot = longer 1721 pastEot
 
 pub record SuccessRuns : Type 0 where
@@ -32,7 +32,7 @@ pub record SuccessRuns : Type 0 where
   pub fill : Fill (disk 1 1 2 1) 260 1
   pub there :
       AllThere (disk 1 1 2 1) (double 1) (headOf (wrote .order) (askedBy wrote)) (writing false false 2) fromOne 1
-  pub write-tells : WriteTells 260 (callsOf longWrite) (askedBy wrote) fresh
+  pub write-tells : WriteTells 260 (callsOf longWrite) (askedBy wrote) noHistory
   pub good :
       AllGood (disk 1 1 2 1) left (headOf (back .order) (askedBy back)) (reading false false false 2) fromOne 1
   pub read-tells : ReadTells 260 (callsOf longRead) (askedBy back) untaken
@@ -47,6 +47,6 @@ pub record SuccessRuns : Type 0 where
       AllGood (disk 1 1 2 1) (double 1) (headOf (pastEot .order) (askedBy pastEot)) (reading false false false 1)
       fromOne 0
   pub eot-last : LastOne (reading false false false 1) (aimNo (reading false false false 1) fromOne 0)
-  pub eot-untold : AsTaken Untold (callsOf longEot) (askedBy pastEot) untaken
+  pub eot-untold : AsTaken UntoldRead (callsOf longEot) (askedBy pastEot) untaken
   pub reaches-eot :
       Ends (PastEot (pastEot .order) (reading false false false 1) fromOne 0) (callsOf longEot) (askedBy pastEot)

@@ -11,7 +11,7 @@ use Rattle.fdc.specs.declared.record.Phase.the-variants.{Starting, Answering}
 use Rattle.reached.specs.Moves.{AllCalm}
 use Rattle.reached.specs.Runs.{Call, runCalls}
 use Rattle.demands.specs.Work.{Real, atWork, Its}
-use Rattle.runs.specs.RowRuns.{box, given, move, format, marks, on, writing}
+use Rattle.runs.specs.RowRuns.{box, rowGiven, move, format, marks, on, rowWriting}
 
 -- the premises; so the result waits
 pub record WaitsRun (c : Controller) (calls : List Call) : Type 0 where
@@ -23,12 +23,12 @@ pub record WaitsRun (c : Controller) (calls : List Call) : Type 0 where
   pub over : atWork (runCalls calls c .phase) ≡ false
   pub waits : runCalls calls c .phase ≡ Answering true
 
-abbrev pub Waits : List ℕ → List Call → Type 0
-Waits bytes calls = WaitsRun (box 0 (given bytes [])) calls
+abbrev pub WaitsAfter : List ℕ → List Call → Type 0
+WaitsAfter bytes calls = WaitsRun (box 0 (rowGiven bytes [])) calls
 
 pub record WaitsRuns : Type 0 where
   -- no such sector; a protected disk; the first ID; a byte missing
-  pub read : Waits (move 0x46 3 4) (on 5 (marks 1 1))
-  pub write : Waits (move 0x45 1 2) (on 1 (set (marks 1 1) 7 1))
-  pub read-id : Waits (0x4A ∷ 0 ∷ []) (on 2 (marks 1 1))
-  pub formats : Waits (format 2) (on 1 (marks 1 1) ++ (writing 1 (marks 1 1) ++ on 2 (marks 1 1)))
+  pub read : WaitsAfter (move 0x46 3 4) (on 5 (marks 1 1))
+  pub write : WaitsAfter (move 0x45 1 2) (on 1 (set (marks 1 1) 7 1))
+  pub read-id : WaitsAfter (0x4A ∷ 0 ∷ []) (on 2 (marks 1 1))
+  pub formats : WaitsAfter (format 2) (on 1 (marks 1 1) ++ (rowWriting 1 (marks 1 1) ++ on 2 (marks 1 1)))

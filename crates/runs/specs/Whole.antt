@@ -21,14 +21,14 @@ use Rattle.fdc.specs.Calls.{powerOn}
 use Rattle.reached.specs.Examples.{command}
 use Rattle.reached.specs.Runs.{Call, powers, reads, writes, takes, gives, ticks, notes, after, runCalls}
 use Rattle.demands.specs.HandedOver.{Reads, Taken, untaken, takenOver}
-use Rattle.demands.specs.History.{Sector, Begun, no-one, History, fresh, historyOf}
+use Rattle.demands.specs.History.{Sector, Begun, no-one, History, noHistory, historyOf}
 use Rattle.demands.specs.InTime.{Prompt}
 use Rattle.demands.specs.PowerCut.{Writes}
 use Rattle.demands.specs.Work.{Real, Its, Alone, imageBy, imageLeft}
 
 -- where the heads stand at power-on; DOR; Configure's byte, with EFIFO 20 and FIFOTHR; Specify's second, whose last
 -- bit is ND; the command's bytes and what they say; the disk; and what the host does, each tick without its image
-pub record Given : Type 0 where
+pub record WholeGiven : Type 0 where
   pub head0 : ℕ
   pub head1 : ℕ
   pub dor : ℕ
@@ -40,13 +40,13 @@ pub record Given : Type 0 where
   pub img : List ℕ
   pub does : List Call
 
-abbrev pub asking : Given → List Call
+abbrev pub asking : WholeGiven → List Call
 asking x =
     writes 2 (x .dor)
     ∷ command (0x13 ∷ 0x00 ∷ x .config ∷ 0x00 ∷ []) ++ (command (0x03 ∷ 0xDF ∷ x .spec ∷ []) ++ command (x .bytes))
 
 -- the record that has accepted the command
-abbrev pub askedBy : Given → Controller
+abbrev pub askedBy : WholeGiven → Controller
 askedBy x = runCalls (asking x) (powerOn (x .head0) (x .head1) .controller)
 
 -- a tick is handed this image for its drive, 0 or 1, and none for the other
@@ -66,12 +66,12 @@ handing drive (call ∷ calls) c img =
     let now = lending drive img call in
     now ∷ handing drive calls (after now c) (imageBy drive img now c)
 
-abbrev pub callsOf : Given → List Call
+abbrev pub callsOf : WholeGiven → List Call
 callsOf x = handing (x .order .drive) (x .does) (askedBy x) (x .img)
 
 -- at the end: the phase, the result ST0 ST1 ST2 C H R N; whether TC came, and the bytes that passed; of a write the
 -- sectors finished, the last one first, and the one begun
-pub record Outcome : Type 0 where
+pub record WholeOutcome : Type 0 where
   pub phase : Phase
   pub result : List ℕ
   pub told : Bool
@@ -79,7 +79,7 @@ pub record Outcome : Type 0 where
   pub finished : List Sector
   pub begun : Begun
 
-abbrev pub wroteOf : Controller → History → Outcome
+abbrev pub wroteOf : Controller → History → WholeOutcome
 wroteOf c h =
     record {
       phase = c .phase;
@@ -90,7 +90,7 @@ wroteOf c h =
       begun = h .begun;
     }
 
-abbrev pub tookOf : Controller → Taken → Outcome
+abbrev pub tookOf : Controller → Taken → WholeOutcome
 tookOf c t =
     record {
       phase = c .phase;
@@ -102,7 +102,7 @@ tookOf c t =
     }
 
 -- the result waits with INT on
-abbrev pub waiting : List ℕ → Bool → List ℕ → List Sector → Begun → Outcome
+abbrev pub waiting : List ℕ → Bool → List ℕ → List Sector → Begun → WholeOutcome
 waiting result told bytes finished begun =
     record {
       phase = Answering true;
@@ -113,14 +113,14 @@ waiting result told bytes finished begun =
       begun = begun;
     }
 
-abbrev pub Wrote : Given → Outcome → Type 0
-Wrote x o = wroteOf (runCalls (callsOf x) (askedBy x)) (historyOf (callsOf x) (askedBy x) fresh) ≡ o
+abbrev pub Wrote : WholeGiven → WholeOutcome → Type 0
+Wrote x o = wroteOf (runCalls (callsOf x) (askedBy x)) (historyOf (callsOf x) (askedBy x) noHistory) ≡ o
 
-abbrev pub Took : Given → Outcome → Type 0
+abbrev pub Took : WholeGiven → WholeOutcome → Type 0
 Took x o = tookOf (runCalls (callsOf x) (askedBy x)) (takenOver (callsOf x) (askedBy x) untaken) ≡ o
 
 -- all premises of the statements over a write's calls, and what came of them
-pub record WriteRun (x : Given) (o : Outcome) : Type 0 where
+pub record WriteRun (x : WholeGiven) (o : WholeOutcome) : Type 0 where
   pub real : Real (askedBy x)
   pub transfer : Transfer
   pub id : Id
@@ -131,7 +131,7 @@ pub record WriteRun (x : Given) (o : Outcome) : Type 0 where
   pub outcome : Wrote x o
 
 -- and a read's
-pub record ReadRun (x : Given) (o : Outcome) : Type 0 where
+pub record ReadRun (x : WholeGiven) (o : WholeOutcome) : Type 0 where
   pub real : Real (askedBy x)
   pub transfer : Transfer
   pub id : Id
@@ -142,7 +142,7 @@ pub record ReadRun (x : Given) (o : Outcome) : Type 0 where
   pub outcome : Took x o
 
 -- a Format's, with its result, the bytes that the host handed over and the image left
-pub record FormatRun (x : Given) (result host left : List ℕ) : Type 0 where
+pub record FormatRun (x : WholeGiven) (result host left : List ℕ) : Type 0 where
   pub real : Real (askedBy x)
   pub plan : Plan
   pub accepted : askedBy x .phase ≡ Starting (x .order)
@@ -152,9 +152,9 @@ pub record FormatRun (x : Given) (result host left : List ℕ) : Type 0 where
   pub alone : Alone (x .order .drive) (x .img) (callsOf x) (askedBy x)
   pub ends : runCalls (callsOf x) (askedBy x) .phase ≡ Answering true
   pub result-is : runCalls (callsOf x) (askedBy x) .bytes .results ≡ result
-  pub host-is : historyOf (callsOf x) (askedBy x) fresh .host ≡ host
+  pub host-is : historyOf (callsOf x) (askedBy x) noHistory .host ≡ host
   pub left-is : imageLeft (x .order .drive) (x .img) (callsOf x) (askedBy x) ≡ left
 
 -- the host serves each request before the next tick
-abbrev pub Served : Given → Type 0
+abbrev pub Served : WholeGiven → Type 0
 Served x = Prompt (callsOf x) (askedBy x)

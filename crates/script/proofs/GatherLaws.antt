@@ -8,24 +8,24 @@ use mathlib.Core.Path.{_≡_, refl, ap}
 use lib.ListN.{length}
 use borrow.Author.Tests.{lt-ltb, le-ltb}
 use Rattle.log.specs.Gather.{noText, addedAll}
-use Rattle.log.proofs.GatherLaws.{held, full}
-use Rattle.script.specs.Line.{lineOf, lineWithin, gatheredLine}
+use Rattle.log.proofs.GatherLaws.{added-holds, full}
+use Rattle.script.specs.Line.{scriptLine, scriptWithin, scriptGathered}
 use Rattle.script.specs.declared.line.Expected.the-variants as expected
 use Rattle.script.specs.declared.line.Line.the-variants.{Malformed}
 
 -- a line that fits
-pub gathered-line : (s : List ℕ) → length s ≤ 255 → gatheredLine (addedAll s noText) ≡ lineOf s
-unfolding lineWithin
-gathered-line s h =
-    let all = held s noText refl (omega arith) in
-    simp (lt-ltb (addedAll s noText .length) 256 (omega (arith, all .count))) (ap lineOf (all .bytes))
+pub script-line : (s : List ℕ) → length s ≤ 255 → scriptGathered (addedAll s noText) ≡ scriptLine s
+unfolding scriptWithin
+script-line s h =
+    let all = added-holds s noText refl (omega arith) in
+    simp (lt-ltb (addedAll s noText .length) 256 (omega (arith, all .count))) (ap scriptLine (all .bytes))
 
 -- a line of 256 bytes, and more
-pub gathered-long : (s more : List ℕ)
+pub script-long : (s more : List ℕ)
     → length s ≡ 256
-    → gatheredLine (addedAll more (addedAll s noText)) ≡ Malformed expected.Shorter
-unfolding lineWithin
-gathered-long s more h =
-    let all = held s noText refl (omega arith) in
+    → scriptGathered (addedAll more (addedAll s noText)) ≡ Malformed expected.Shorter
+unfolding scriptWithin
+script-long s more h =
+    let all = added-holds s noText refl (omega arith) in
     let long : 256 ≤ addedAll s noText .length = omega (arith, all .count) in
     rw (full more (addedAll s noText) long) (simp (le-ltb (addedAll s noText .length) 256 long))

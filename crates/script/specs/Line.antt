@@ -11,9 +11,9 @@ use mathlib.Core.Bool.{_||_, cond}
 use mathlib.Core.List.{List}
 use lib.Dec.{eqb, leb, ltb}
 use lib.ListN.{getD, take}
-use Rattle.log.specs.Hex.{numberIn}
+use Rattle.log.specs.Hex.{hexIn}
 use Rattle.log.specs.Line.{textLength}
-use Rattle.log.specs.Words.{lengthOf, wordFrom, letterIn}
+use Rattle.log.specs.Words.{wordLength, wordFrom, letterIn}
 use Rattle.log.specs.declared.gather.Gathered.{Gathered}
 use Rattle.log.specs.declared.hex.Number.{Number}
 use Rattle.log.specs.declared.hex.Number.the-variants as number
@@ -41,100 +41,100 @@ pairOf first second = first * 256 + second
 
 -- the two bytes of a word of two; of any other word 0
 unfoldable pub pairIn : List ℕ → Word → ℕ
-pairIn t w = cond (eqb (lengthOf w) 2) (pairOf (getD t (w .start) 0) (getD t (w .start + 1) 0)) 0
+pairIn t w = cond (eqb (wordLength w) 2) (pairOf (getD t (w .start) 0) (getD t (w .start + 1) 0)) 0
 
 -- that line, where no word follows
-unfoldable pub endedAt : List ℕ → ℕ → Line → Line
-endedAt t at line = cond (eqb (lengthOf (wordFrom t at)) 0) line (Malformed expected.End)
+unfoldable pub scriptEnded : List ℕ → ℕ → Line → Line
+scriptEnded t at line = cond (eqb (wordLength (wordFrom t at)) 0) line (Malformed expected.End)
 
 -- `r OFFSET -> BYTE`, by the number that was to be the value
 abbrev pub recordedBy : List ℕ → ℕ → ℕ → Number → Line
-recordedBy t at offset (number.Byte byte) = endedAt t at (Recorded offset byte)
+recordedBy t at offset (number.Byte byte) = scriptEnded t at (Recorded offset byte)
 recordedBy t at offset number.None = Malformed expected.Byte
 
 unfoldable pub recordedFrom : List ℕ → ℕ → ℕ → Line
-recordedFrom t at offset = recordedBy t (wordFrom t at .stop) offset (numberIn t (wordFrom t at))
+recordedFrom t at offset = recordedBy t (wordFrom t at .stop) offset (hexIn t (wordFrom t at))
 
 -- behind a read's offset: `->` 2D 3E (hexadecimal) and what follows, or nothing
 unfoldable pub arrowFrom : List ℕ → ℕ → ℕ → Line
 arrowFrom t at offset =
     cond (eqb (pairIn t (wordFrom t at)) 0x2D3E) (recordedFrom t (wordFrom t at .stop) offset)
-    (endedAt t at (Read offset))
+    (scriptEnded t at (Read offset))
 
-abbrev pub readBy : List ℕ → ℕ → Number → Line
-readBy t at (number.Byte offset) = arrowFrom t at offset
-readBy t at number.None = Malformed expected.Offset
+abbrev pub scriptReadBy : List ℕ → ℕ → Number → Line
+scriptReadBy t at (number.Byte offset) = arrowFrom t at offset
+scriptReadBy t at number.None = Malformed expected.Offset
 
-unfoldable pub readFrom : List ℕ → ℕ → Line
-readFrom t at = readBy t (wordFrom t at .stop) (numberIn t (wordFrom t at))
+unfoldable pub scriptRead : List ℕ → ℕ → Line
+scriptRead t at = scriptReadBy t (wordFrom t at .stop) (hexIn t (wordFrom t at))
 
 -- `w OFFSET BYTE`
-abbrev pub byteBy : List ℕ → ℕ → ℕ → Number → Line
-byteBy t at offset (number.Byte byte) = endedAt t at (Write offset byte)
-byteBy t at offset number.None = Malformed expected.Byte
+abbrev pub scriptByteBy : List ℕ → ℕ → ℕ → Number → Line
+scriptByteBy t at offset (number.Byte byte) = scriptEnded t at (Write offset byte)
+scriptByteBy t at offset number.None = Malformed expected.Byte
 
-unfoldable pub byteFrom : List ℕ → ℕ → ℕ → Line
-byteFrom t at offset = byteBy t (wordFrom t at .stop) offset (numberIn t (wordFrom t at))
+unfoldable pub scriptByte : List ℕ → ℕ → ℕ → Line
+scriptByte t at offset = scriptByteBy t (wordFrom t at .stop) offset (hexIn t (wordFrom t at))
 
-abbrev pub writeBy : List ℕ → ℕ → Number → Line
-writeBy t at (number.Byte offset) = byteFrom t at offset
-writeBy t at number.None = Malformed expected.Offset
+abbrev pub scriptWriteBy : List ℕ → ℕ → Number → Line
+scriptWriteBy t at (number.Byte offset) = scriptByte t at offset
+scriptWriteBy t at number.None = Malformed expected.Offset
 
-unfoldable pub writeFrom : List ℕ → ℕ → Line
-writeFrom t at = writeBy t (wordFrom t at .stop) (numberIn t (wordFrom t at))
+unfoldable pub scriptWrite : List ℕ → ℕ → Line
+scriptWrite t at = scriptWriteBy t (wordFrom t at .stop) (hexIn t (wordFrom t at))
 
 -- `dr TC`: 0 or 1
 unfoldable pub takeAt : List ℕ → ℕ → ℕ → Line
-takeAt t at tc = cond (leb tc 1) (endedAt t at (Take (eqb tc 1))) (Malformed expected.Tc)
+takeAt t at tc = cond (leb tc 1) (scriptEnded t at (Take (eqb tc 1))) (Malformed expected.Tc)
 
 abbrev pub takeBy : List ℕ → ℕ → Number → Line
 takeBy t at (number.Byte tc) = takeAt t at tc
 takeBy t at number.None = Malformed expected.Tc
 
 unfoldable pub takeFrom : List ℕ → ℕ → Line
-takeFrom t at = takeBy t (wordFrom t at .stop) (numberIn t (wordFrom t at))
+takeFrom t at = takeBy t (wordFrom t at .stop) (hexIn t (wordFrom t at))
 
 -- `dw BYTE TC`
 unfoldable pub giveAt : List ℕ → ℕ → ℕ → ℕ → Line
-giveAt t at byte tc = cond (leb tc 1) (endedAt t at (Give byte (eqb tc 1))) (Malformed expected.Tc)
+giveAt t at byte tc = cond (leb tc 1) (scriptEnded t at (Give byte (eqb tc 1))) (Malformed expected.Tc)
 
 abbrev pub tcBy : List ℕ → ℕ → ℕ → Number → Line
 tcBy t at byte (number.Byte tc) = giveAt t at byte tc
 tcBy t at byte number.None = Malformed expected.Tc
 
 unfoldable pub tcFrom : List ℕ → ℕ → ℕ → Line
-tcFrom t at byte = tcBy t (wordFrom t at .stop) byte (numberIn t (wordFrom t at))
+tcFrom t at byte = tcBy t (wordFrom t at .stop) byte (hexIn t (wordFrom t at))
 
 abbrev pub giveBy : List ℕ → ℕ → Number → Line
 giveBy t at (number.Byte byte) = tcFrom t at byte
 giveBy t at number.None = Malformed expected.Byte
 
 unfoldable pub giveFrom : List ℕ → ℕ → Line
-giveFrom t at = giveBy t (wordFrom t at .stop) (numberIn t (wordFrom t at))
+giveFrom t at = giveBy t (wordFrom t at .stop) (hexIn t (wordFrom t at))
 
 -- `c DRIVE`
 abbrev pub changeBy : List ℕ → ℕ → Number → Line
-changeBy t at (number.Byte drive) = endedAt t at (Change drive)
+changeBy t at (number.Byte drive) = scriptEnded t at (Change drive)
 changeBy t at number.None = Malformed expected.Drive
 
 unfoldable pub changeFrom : List ℕ → ℕ → Line
-changeFrom t at = changeBy t (wordFrom t at .stop) (numberIn t (wordFrom t at))
+changeFrom t at = changeBy t (wordFrom t at .stop) (hexIn t (wordFrom t at))
 
 -- `t COUNT`
 abbrev pub ticksBy : List ℕ → ℕ → Decimal → Line
-ticksBy t at (decimal.Value n) = endedAt t at (Ticks n)
+ticksBy t at (decimal.Value n) = scriptEnded t at (Ticks n)
 ticksBy t at decimal.None = Malformed expected.Count
 
 unfoldable pub ticksFrom : List ℕ → ℕ → Line
 ticksFrom t at = ticksBy t (wordFrom t at .stop) (decimalIn t (wordFrom t at))
 
 -- `p HEAD HEAD`
-abbrev pub headAfter : List ℕ → ℕ → ℕ → Number → Line
-headAfter t at head0 (number.Byte head1) = endedAt t at (Power head0 head1)
-headAfter t at head0 number.None = Malformed expected.Head
+abbrev pub secondHeadBy : List ℕ → ℕ → ℕ → Number → Line
+secondHeadBy t at head0 (number.Byte head1) = scriptEnded t at (Power head0 head1)
+secondHeadBy t at head0 number.None = Malformed expected.Head
 
 unfoldable pub headFrom : List ℕ → ℕ → ℕ → Line
-headFrom t at head0 = headAfter t (wordFrom t at .stop) head0 (headIn t (wordFrom t at))
+headFrom t at head0 = secondHeadBy t (wordFrom t at .stop) head0 (headIn t (wordFrom t at))
 
 abbrev pub powerBy : List ℕ → ℕ → Number → Line
 powerBy t at (number.Byte head0) = headFrom t at head0
@@ -146,27 +146,27 @@ powerFrom t at = powerBy t (wordFrom t at .stop) (headIn t (wordFrom t at))
 -- `r` 72, `w` 77, `t` 74, `p` 70, `c` 63 (hexadecimal) and what follows
 unfoldable pub letterCall : List ℕ → ℕ → ℕ → Line
 letterCall t at letter =
-    cond (eqb letter 0x72) (readFrom t at)
-    (cond (eqb letter 0x77) (writeFrom t at)
+    cond (eqb letter 0x72) (scriptRead t at)
+    (cond (eqb letter 0x77) (scriptWrite t at)
     (cond (eqb letter 0x74) (ticksFrom t at)
     (cond (eqb letter 0x70) (powerFrom t at)
     (cond (eqb letter 0x63) (changeFrom t at)
     (Malformed expected.Call)))))
 
 -- blank or a comment; else `dr` 64 72, `dw` 64 77, or one letter
-unfoldable pub callIn : List ℕ → Line
-callIn t =
-    cond (eqb (lengthOf (wordFrom t 0)) 0 || eqb (getD t (wordFrom t 0 .start) 0) 0x23) Nothing
+unfoldable pub scriptCall : List ℕ → Line
+scriptCall t =
+    cond (eqb (wordLength (wordFrom t 0)) 0 || eqb (getD t (wordFrom t 0 .start) 0) 0x23) Nothing
     (cond (eqb (pairIn t (wordFrom t 0)) 0x6472) (takeFrom t (wordFrom t 0 .stop))
     (cond (eqb (pairIn t (wordFrom t 0)) 0x6477) (giveFrom t (wordFrom t 0 .stop))
     (letterCall t (wordFrom t 0 .stop) (letterIn t (wordFrom t 0)))))
 
-unfoldable pub lineOf : List ℕ → Line
-lineOf s = callIn (take (textLength s) s)
+unfoldable pub scriptLine : List ℕ → Line
+scriptLine s = scriptCall (take (textLength s) s)
 
 -- the line that the first n bytes of a text are: 255 at most
-unfoldable pub lineWithin : List ℕ → ℕ → Line
-lineWithin text n = cond (ltb n 256) (lineOf (take n text)) (Malformed expected.Shorter)
+unfoldable pub scriptWithin : List ℕ → ℕ → Line
+scriptWithin text n = cond (ltb n 256) (scriptLine (take n text)) (Malformed expected.Shorter)
 
-abbrev pub gatheredLine : Gathered → Line
-gatheredLine g = lineWithin (g .text) (g .length)
+abbrev pub scriptGathered : Gathered → Line
+scriptGathered g = scriptWithin (g .text) (g .length)

@@ -16,8 +16,8 @@ abbrev pub noTally : Tally
 noTally = record { calls = 0; refusals = 0; differences = 0; recorded = false }
 
 -- a call, refused or not
-unfoldable pub calledOf : Bool → Tally → Tally
-calledOf refused t =
+unfoldable pub talliedOf : Bool → Tally → Tally
+talliedOf refused t =
     record {
       calls = oneMore (t .calls);
       refusals = moreIf refused (t .refusals);

@@ -14,12 +14,12 @@ ghost use mathlib.Core.Path.{_≡_};
 ghost use Rattle.script.specs.Line.{
   pairOf,
   pairIn,
-  endedAt,
+  scriptEnded,
   recordedFrom,
   arrowFrom,
-  readFrom,
-  byteFrom,
-  writeFrom,
+  scriptRead,
+  scriptByte,
+  scriptWrite,
   takeAt,
   takeFrom,
   giveAt,
@@ -30,10 +30,10 @@ ghost use Rattle.script.specs.Line.{
   headFrom,
   powerFrom,
   letterCall,
-  callIn,
-  lineOf,
-  lineWithin,
-  gatheredLine,
+  scriptCall,
+  scriptLine,
+  scriptWithin,
+  scriptGathered,
 };
 
 pub enum Expected {
@@ -91,7 +91,7 @@ fn pair_in(t: &[u8], word: Word) -> u16
 
 // That line, where no word follows.
 fn ended(t: &[u8], at: usize, line: Line) -> Line
-    ensures { λ r. ⌜ r ≡ endedAt (now (t .entry)) at line ⌝ }
+    ensures { λ r. ⌜ r ≡ scriptEnded (now (t .entry)) at line ⌝ }
 {
     let over = word_from(t, at).length() == 0;
     if over {
@@ -126,7 +126,7 @@ fn arrow_from(t: &[u8], at: usize, offset: u8) -> Line
 
 // What follows `r`.
 fn read_from(t: &[u8], at: usize) -> Line
-    ensures { λ r. ⌜ r ≡ readFrom (now (t .entry)) at ⌝ }
+    ensures { λ r. ⌜ r ≡ scriptRead (now (t .entry)) at ⌝ }
 {
     let word = word_from(t, at);
     let number = number_in(t, word);
@@ -138,7 +138,7 @@ fn read_from(t: &[u8], at: usize) -> Line
 
 // What follows the offset of a write.
 fn byte_from(t: &[u8], at: usize, offset: u8) -> Line
-    ensures { λ r. ⌜ r ≡ byteFrom (now (t .entry)) at offset ⌝ }
+    ensures { λ r. ⌜ r ≡ scriptByte (now (t .entry)) at offset ⌝ }
 {
     let word = word_from(t, at);
     let number = number_in(t, word);
@@ -150,7 +150,7 @@ fn byte_from(t: &[u8], at: usize, offset: u8) -> Line
 
 // What follows `w`.
 fn write_from(t: &[u8], at: usize) -> Line
-    ensures { λ r. ⌜ r ≡ writeFrom (now (t .entry)) at ⌝ }
+    ensures { λ r. ⌜ r ≡ scriptWrite (now (t .entry)) at ⌝ }
 {
     let word = word_from(t, at);
     let number = number_in(t, word);
@@ -292,7 +292,7 @@ fn letter_call(t: &[u8], at: usize, letter: u8) -> Line
 }
 
 fn call_in(t: &[u8]) -> Line
-    ensures { λ r. ⌜ r ≡ callIn (now (t .entry)) ⌝ }
+    ensures { λ r. ⌜ r ≡ scriptCall (now (t .entry)) ⌝ }
 {
     let word = word_from(t, 0);
     let nothing = (word.length() == 0) | (byte_at(t, word.start) == b'#');
@@ -313,7 +313,7 @@ fn call_in(t: &[u8]) -> Line
 
 // A line, without its line end.
 pub fn line_of(s: &[u8]) -> Line
-    ensures { λ r. ⌜ r ≡ lineOf (now (s .entry)) ⌝ }
+    ensures { λ r. ⌜ r ≡ scriptLine (now (s .entry)) ⌝ }
 {
     let n = text_length(s);
     call_in(&s[..n])
@@ -321,7 +321,7 @@ pub fn line_of(s: &[u8]) -> Line
 
 // The line that the first bytes of a text are.
 fn line_within(text: &[u8; 256], n: usize) -> Line
-    ensures { λ r. ⌜ r ≡ lineWithin (now (text .entry)) n ⌝ }
+    ensures { λ r. ⌜ r ≡ scriptWithin (now (text .entry)) n ⌝ }
 {
     if n < 256 {
         let all: &[u8] = text;
@@ -332,7 +332,7 @@ fn line_within(text: &[u8; 256], n: usize) -> Line
 
 // The line whose bytes were gathered.
 pub fn gathered_line(gathered: Gathered) -> Line
-    ensures { λ r. ⌜ r ≡ gatheredLine gathered ⌝ }
+    ensures { λ r. ⌜ r ≡ scriptGathered gathered ⌝ }
 {
     let text = gathered.text;
     line_within(&text, gathered.length)

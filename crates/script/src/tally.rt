@@ -1,7 +1,7 @@
 // What a replay counts: calls, refusals and values that differ from those recorded. A count stays where it is at the
 // largest number that there is.
 ghost use mathlib.Core.Path.{_≡_};
-ghost use Rattle.script.specs.Tally.{oneMore, moreIf, noTally, calledOf, comparedOf};
+ghost use Rattle.script.specs.Tally.{oneMore, moreIf, noTally, talliedOf, comparedOf};
 
 pub struct Tally {
     pub calls: u64,
@@ -43,7 +43,7 @@ impl Tally {
 
     // A call more.
     pub fn called(self, refused: bool) -> Tally
-        ensures { λ r. ⌜ r ≡ calledOf refused self ⌝ }
+        ensures { λ r. ⌜ r ≡ talliedOf refused self ⌝ }
     {
         Tally {
             calls: one_more(self.calls),

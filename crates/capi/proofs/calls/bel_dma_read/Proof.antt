@@ -1,6 +1,6 @@
 -- `capi::calls::bel_dma_read` meets its contract.
 -- Assumes nothing.
-use Rattle.capi.specs.Calls.{wordFrom, cycleFrom}
+use Rattle.capi.specs.Calls.{wordBack, cycleFrom}
 use Rattle.pack.proofs.CycleLaws.{read-keeps}
 use Rattle.pack.proofs.PutLaws.{record-loaded}
 use mathlib.Core.Path.{sym, _∙_}
@@ -10,7 +10,7 @@ use Rattle.capi.proofs.calls.bel_dma_read.Statement.{statement}
 use Rattle.capi.proofs.calls.bel_dma_read.Tie as tie
 
 pub bel-dma-read-spec : {M : Type 1} → statement M
-unfolding wordFrom cycleFrom
+unfolding wordBack cycleFrom
 bel-dma-read-spec =
     tie.close
     (tie.spec

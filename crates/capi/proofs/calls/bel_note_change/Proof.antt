@@ -1,6 +1,6 @@
 -- `capi::calls::bel_note_change` meets its contract.
 -- Assumes nothing.
-use Rattle.capi.specs.Calls.{wordFrom, bytesFrom}
+use Rattle.capi.specs.Calls.{wordBack, bytesFrom}
 use Rattle.pack.proofs.PutLaws.{record-loaded}
 use mathlib.Core.Path.{sym, _∙_}
 use mathlib.Core.Bool.{true≢false}
@@ -9,7 +9,7 @@ use Rattle.capi.proofs.calls.bel_note_change.Statement.{statement}
 use Rattle.capi.proofs.calls.bel_note_change.Tie as tie
 
 pub bel-note-change-spec : {M : Type 1} → statement M
-unfolding wordFrom bytesFrom
+unfolding wordBack bytesFrom
 bel-note-change-spec =
     tie.close
     (tie.spec

@@ -1,6 +1,6 @@
 -- `capi::calls::bel_tick` meets its contract.
 -- Assumes nothing.
-use Rattle.capi.specs.Calls.{wordFrom, bytesFrom, imageFrom}
+use Rattle.capi.specs.Calls.{wordBack, bytesFrom, imageFrom}
 use Rattle.pack.proofs.PutLaws.{record-loaded}
 use mathlib.Core.Path.{sym, _∙_}
 use mathlib.Core.Bool.{true≢false}
@@ -9,7 +9,7 @@ use Rattle.capi.proofs.calls.bel_tick.Statement.{statement}
 use Rattle.capi.proofs.calls.bel_tick.Tie as tie
 
 pub bel-tick-spec : {M : Type 1} → statement M
-unfolding wordFrom bytesFrom imageFrom
+unfolding wordBack bytesFrom imageFrom
 bel-tick-spec =
     tie.close
     (tie.spec

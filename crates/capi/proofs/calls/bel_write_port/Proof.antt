@@ -1,6 +1,6 @@
 -- `capi::calls::bel_write_port` meets its contract.
 -- Assumes nothing.
-use Rattle.capi.specs.Calls.{wordFrom, bytesFrom}
+use Rattle.capi.specs.Calls.{wordBack, bytesFrom}
 use Rattle.pack.proofs.PutLaws.{record-loaded}
 use mathlib.Core.Path.{sym, _∙_}
 use mathlib.Core.Bool.{true≢false}
@@ -9,7 +9,7 @@ use Rattle.capi.proofs.calls.bel_write_port.Statement.{statement}
 use Rattle.capi.proofs.calls.bel_write_port.Tie as tie
 
 pub bel-write-port-spec : {M : Type 1} → statement M
-unfolding wordFrom bytesFrom
+unfolding wordBack bytesFrom
 bel-write-port-spec =
     tie.close
     (tie.spec

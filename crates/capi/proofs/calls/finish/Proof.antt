@@ -1,6 +1,6 @@
 -- `capi::calls::finish` meets its contract.
 -- Assumes nothing.
-use Rattle.capi.specs.Calls.{writtenOf}
+use Rattle.capi.specs.Calls.{writtenBack}
 use Rattle.pack.proofs.PutLaws.{record-long}
 use borrow.Author.Tests.{eq-eqb}
 use mathlib.Core.Path.{sym, _∙_}
@@ -10,7 +10,7 @@ use Rattle.capi.proofs.calls.finish.Statement.{statement}
 use Rattle.capi.proofs.calls.finish.Tie as tie
 
 pub finish-spec : {M : Type 1} → statement M
-unfolding writtenOf
+unfolding writtenBack
 finish-spec =
     tie.close
     (tie.spec

@@ -2,7 +2,7 @@
 -- with the table.
 -- Assumes nothing.
 use borrow.Author.Needs.{needs}
-use Rattle.chip.specs.Commands.{kindOf, lineOf}
+use Rattle.chip.specs.Commands.{kindOf, tableLine}
 use Rattle.chip.proofs.TableLaws.{at}
 use Rattle.chip.proofs.codes.line_at.Statement.{statement}
 use Rattle.chip.proofs.codes.line_at.Tie as tie
@@ -13,4 +13,4 @@ line-at-spec =
     tie.close
     (tie.spec
     (λ c. search needs)
-    (λ c. at (λ n. lineOf (kindOf n)) 256 (c .args .code) (search needs)))
+    (λ c. at (λ n. tableLine (kindOf n)) 256 (c .args .code) (search needs)))

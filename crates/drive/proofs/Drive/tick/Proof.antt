@@ -1,12 +1,12 @@
 -- `drive::Drive::tick` meets its contract.
 -- Assumes nothing.
-use Rattle.drive.specs.Step.{tickOf}
+use Rattle.drive.specs.Step.{tickDrive}
 use borrow.Author.Needs.{needs}
 use Rattle.drive.proofs.Drive.tick.Statement.{statement}
 use Rattle.drive.proofs.Drive.tick.Tie as tie
 
 pub tick-spec : {M : Type 1} → statement M
-unfolding tickOf
+unfolding tickDrive
 tick-spec =
     tie.close
     (tie.spec

@@ -1,12 +1,12 @@
 -- `engine::first::start` meets its contract (01 Data commands, the first tick). Assumes nothing.
 use mathlib.Core.Path.{_∙_}
-use Rattle.engine.specs.First.{startOf}
+use Rattle.engine.specs.First.{startJob}
 use borrow.Author.Needs.{needs}
 use Rattle.engine.proofs.first.start.Statement.{statement}
 use Rattle.engine.proofs.first.start.Tie as tie
 
 pub start-spec : {M : Type 1} → statement M
-unfolding startOf
+unfolding startJob
 start-spec =
     tie.close
     (tie.spec

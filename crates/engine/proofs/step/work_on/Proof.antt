@@ -1,11 +1,11 @@
 -- `engine::step::work_on` meets its contract (01 Data commands). Assumes nothing.
-use Rattle.engine.specs.Step.{workOf}
+use Rattle.engine.specs.Step.{workStep}
 use borrow.Author.Needs.{needs}
 use Rattle.engine.proofs.step.work_on.Statement.{statement}
 use Rattle.engine.proofs.step.work_on.Tie as tie
 
 pub work-on-spec : {M : Type 1} → statement M
-unfolding workOf
+unfolding workStep
 work-on-spec =
     tie.close
     (tie.spec

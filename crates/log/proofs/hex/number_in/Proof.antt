@@ -1,6 +1,6 @@
 -- `log::hex::number_in` meets its contract: a word of two has a byte after its first, so its place is a number too.
 -- Assumes nothing.
-use Rattle.log.specs.Hex.{numberIn}
+use Rattle.log.specs.Hex.{hexIn}
 use native.Mathlib.Omega.{arith}
 use borrow.Author.Tests.{eqb-true}
 use borrow.Author.Needs.{needs}
@@ -8,7 +8,7 @@ use Rattle.log.proofs.hex.number_in.Statement.{statement}
 use Rattle.log.proofs.hex.number_in.Tie as tie
 
 pub number-in-spec : {M : Type 1} → statement M
-unfolding numberIn
+unfolding hexIn
 number-in-spec =
     tie.close
     (tie.spec

@@ -1,13 +1,13 @@
 -- `log::hex::number_of` meets its contract.
 -- Assumes nothing.
-use Rattle.log.specs.Hex.{numberOf}
+use Rattle.log.specs.Hex.{hexNumber}
 use borrow.Author.Tests.{lt-ltb, le-ltb}
 use borrow.Author.Needs.{needs}
 use Rattle.log.proofs.hex.number_of.Statement.{statement}
 use Rattle.log.proofs.hex.number_of.Tie as tie
 
 pub number-of-spec : {M : Type 1} → statement M
-unfolding numberOf
+unfolding hexNumber
 number-of-spec =
     tie.close
     (tie.spec

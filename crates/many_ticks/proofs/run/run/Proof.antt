@@ -6,7 +6,7 @@ use native.Mathlib.Omega.{arith}
 use mathlib.Core.Path.{_≡_, refl, sym, ap, _∙_}
 use lib.ListN.{length}
 use borrow.Author.Needs.{needs}
-use Rattle.many_ticks.specs.Run.{ranOf, runOf}
+use Rattle.many_ticks.specs.Run.{ranWith, ranFor}
 use Rattle.many_ticks.proofs.RunLaws.{image-length, finished, goes-on, stops, parts}
 use Rattle.many_ticks.proofs.run.run.Statement.{statement}
 use Rattle.many_ticks.proofs.run.run.Tie as tie
@@ -16,7 +16,7 @@ Inv-loop a₀ b₀ n rest answer₀ left₀ a b answer left =
     (left ≤ n)
     × (length a ≡ length a₀)
     × (length b ≡ length b₀)
-    × (runOf rest (ranOf answer₀ (n - rest) a₀ b₀) ≡ runOf left (ranOf answer (n - left) a b))
+    × (ranFor rest (ranWith answer₀ (n - rest) a₀ b₀) ≡ ranFor left (ranWith answer (n - left) a b))
 
 abbrev μ-loop : tie.MeasureT-loop
 μ-loop a₀ b₀ n rest answer₀ left₀ a b answer left = left
@@ -59,8 +59,8 @@ returns c =
     (parts
     (stops (args .n) (loop .left) (loop .answer) (tick .result) (loop .a) (loop .b) (tick .last .1 .0)
     (tick .last .1 .1 .0)
-    (runOf (args .rest)
-    (ranOf (at-answer .answer .result) (args .n - args .rest) (args .a .now) (args .b .now)))
+    (ranFor (args .rest)
+    (ranWith (at-answer .answer .result) (args .n - args .rest) (args .a .now) (args .b .now)))
     (at-test .loop-test .taken) (loop .inv .0) (loop .inv .3) (tick .ensures .0) (tick .ensures .1 .0)
     (tick .ensures .1 .1) (sym (c .before .differ .ensures) ∙ c .if1 .taken)))
 
@@ -82,8 +82,8 @@ loop-again c =
           ∙ loop .inv .2,
       goes-on (args .n) (loop .left) (loop .answer) (tick .result) (loop .a) (loop .b) (tick .last .1 .0)
           (tick .last .1 .1 .0)
-          (runOf (args .rest)
-          (ranOf (at-answer .answer .result) (args .n - args .rest) (args .a .now) (args .b .now)))
+          (ranFor (args .rest)
+          (ranWith (at-answer .answer .result) (args .n - args .rest) (args .a .now) (args .b .now)))
           (at-test .loop-test .taken) (loop .inv .0) (loop .inv .3) (tick .ensures .0) (tick .ensures .1 .0)
           (tick .ensures .1 .1) (sym (c .before .differ .ensures) ∙ c .if1 .left),
     )
@@ -103,8 +103,8 @@ returns-2 c =
     rw (← at-answer .answer .ensures)
     (parts
     (finished (args .n) (loop .left) (loop .answer) (loop .a) (loop .b)
-    (runOf (args .rest)
-    (ranOf (at-answer .answer .result) (args .n - args .rest) (args .a .now) (args .b .now))) (c .loop-test .left)
+    (ranFor (args .rest)
+    (ranWith (at-answer .answer .result) (args .n - args .rest) (args .a .now) (args .b .now))) (c .loop-test .left)
     (loop .inv .3)))
 
 pub run-spec : {M : Type 1} → statement M

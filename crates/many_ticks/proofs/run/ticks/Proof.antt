@@ -1,13 +1,13 @@
 -- `many_ticks::run::ticks` meets its contract.
 -- Assumes nothing.
 use mathlib.Core.Path.{refl, sym, _∙_}
-use Rattle.many_ticks.specs.Run.{ticksOf}
+use Rattle.many_ticks.specs.Run.{manyTicks}
 use borrow.Author.Needs.{needs}
 use Rattle.many_ticks.proofs.run.ticks.Statement.{statement}
 use Rattle.many_ticks.proofs.run.ticks.Tie as tie
 
 pub ticks-spec : {M : Type 1} → statement M
-unfolding ticksOf
+unfolding manyTicks
 ticks-spec =
     tie.close
     (tie.spec

@@ -6,7 +6,7 @@ use native.Mathlib.Omega.{arith}
 use mathlib.Core.Path.{_≡_, refl, sym, ap, _∙_}
 use lib.ListN.{length}
 use borrow.Author.Needs.{needs}
-use Rattle.many_ticks.specs.Sector.{bytePut, storesOf}
+use Rattle.many_ticks.specs.Sector.{bytePut, sectorStores}
 use Rattle.many_ticks.proofs.SectorLaws.{store-room, parts, put-length, store-over, store-rested, store-turned, store-on}
 use Rattle.many_ticks.proofs.sector.stores.Statement.{statement}
 use Rattle.many_ticks.proofs.sector.stores.Tie as tie
@@ -15,8 +15,8 @@ abbrev Inv-loop : tie.InvT-loop
 Inv-loop slot from site task head a₀ b₀ efifo fifothr n asks done₀ fifo₀ left₀ a b done fifo left =
     (length a ≡ length a₀)
     × (length b ≡ length b₀)
-    × (storesOf site task head slot efifo fifothr asks n from fifo₀ a₀ b₀
-    ≡ storesOf site task head slot efifo fifothr asks left done fifo a b)
+    × (sectorStores site task head slot efifo fifothr asks n from fifo₀ a₀ b₀
+    ≡ sectorStores site task head slot efifo fifothr asks left done fifo a b)
 
 abbrev μ-loop : tie.MeasureT-loop
 μ-loop slot from site task head a₀ b₀ efifo fifothr n asks done₀ fifo₀ left₀ a b done fifo left = left

@@ -1,12 +1,12 @@
 -- `pack::flat::form_of` meets its contract.
 -- Assumes nothing.
 use borrow.Author.Tests.{ne-eqb}
-use Rattle.pack.specs.Flat.{formOf}
+use Rattle.pack.specs.Flat.{formFrom}
 use Rattle.pack.proofs.flat.form_of.Statement.{statement}
 use Rattle.pack.proofs.flat.form_of.Tie as tie
 
 pub form-of-spec : {M : Type 1} → statement M
-unfolding formOf
+unfolding formFrom
 form-of-spec =
     tie.close
     (tie.spec

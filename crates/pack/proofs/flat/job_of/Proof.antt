@@ -1,12 +1,12 @@
 -- `pack::flat::job_of` meets its contract.
 -- Assumes nothing.
 use borrow.Author.Tests.{ne-eqb}
-use Rattle.pack.specs.Flat.{jobOf}
+use Rattle.pack.specs.Flat.{jobFrom}
 use Rattle.pack.proofs.flat.job_of.Statement.{statement}
 use Rattle.pack.proofs.flat.job_of.Tie as tie
 
 pub job-of-spec : {M : Type 1} → statement M
-unfolding jobOf
+unfolding jobFrom
 job-of-spec =
     tie.close
     (tie.spec

@@ -1,13 +1,13 @@
 -- `pack::flat::phase_of` meets its contract.
 -- Assumes nothing.
 use borrow.Author.Tests.{ne-eqb}
-use Rattle.pack.specs.Flat.{phaseOf}
+use Rattle.pack.specs.Flat.{phaseFrom}
 use borrow.Author.Needs.{needs}
 use Rattle.pack.proofs.flat.phase_of.Statement.{statement}
 use Rattle.pack.proofs.flat.phase_of.Tie as tie
 
 pub phase-of-spec : {M : Type 1} → statement M
-unfolding phaseOf
+unfolding phaseFrom
 phase-of-spec =
     tie.close
     (tie.spec

@@ -1,12 +1,12 @@
 -- `pack::flat::stage_of` meets its contract.
 -- Assumes nothing.
 use borrow.Author.Tests.{ne-eqb}
-use Rattle.pack.specs.Flat.{stageOf}
+use Rattle.pack.specs.Flat.{stageFrom}
 use Rattle.pack.proofs.flat.stage_of.Statement.{statement}
 use Rattle.pack.proofs.flat.stage_of.Tie as tie
 
 pub stage-of-spec : {M : Type 1} → statement M
-unfolding stageOf
+unfolding stageFrom
 stage-of-spec =
     tie.close
     (tie.spec

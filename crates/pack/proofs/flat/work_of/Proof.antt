@@ -1,13 +1,13 @@
 -- `pack::flat::work_of` meets its contract.
 -- Assumes nothing.
 use borrow.Author.Tests.{ne-eqb}
-use Rattle.pack.specs.Flat.{workOf}
+use Rattle.pack.specs.Flat.{workFrom}
 use borrow.Author.Needs.{needs}
 use Rattle.pack.proofs.flat.work_of.Statement.{statement}
 use Rattle.pack.proofs.flat.work_of.Tie as tie
 
 pub work-of-spec : {M : Type 1} → statement M
-unfolding workOf
+unfolding workFrom
 work-of-spec =
     tie.close
     (tie.spec

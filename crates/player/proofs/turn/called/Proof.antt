@@ -2,12 +2,12 @@
 -- Assumes nothing.
 use mathlib.Core.Path.{refl}
 use borrow.Author.Needs.{needs}
-use Rattle.player.specs.Turn.{calledOf}
+use Rattle.player.specs.Turn.{calledTurn}
 use Rattle.player.proofs.turn.called.Statement.{statement}
 use Rattle.player.proofs.turn.called.Tie as tie
 
 pub called-spec : {M : Type 1} → statement M
-unfolding calledOf
+unfolding calledTurn
 called-spec =
     tie.close
     (tie.spec

@@ -3,7 +3,7 @@
 use mathlib.Core.Path.{_≡_, refl, ap, _∙_}
 use lib.ListN.{length}
 use borrow.Author.Needs.{needs}
-use Rattle.player.specs.Turn.{Turn, still, ticksFrom}
+use Rattle.player.specs.Turn.{Turn, still, turnTicksFrom}
 use Rattle.player.proofs.TurnLaws.{image-length, one-of, none-left}
 use Rattle.player.proofs.turn.ticks.Statement.{statement}
 use Rattle.player.proofs.turn.ticks.Tie as tie
@@ -12,7 +12,7 @@ abbrev Inv-loop : tie.InvT-loop
 Inv-loop a₀ b₀ n answer₀ left₀ a b answer left =
     (length a ≡ length a₀)
     × (length b ≡ length b₀)
-    × (ticksFrom left (still answer a b) ≡ ticksFrom n (still answer₀ a₀ b₀))
+    × (turnTicksFrom left (still answer a b) ≡ turnTicksFrom n (still answer₀ a₀ b₀))
 
 abbrev μ-loop : tie.MeasureT-loop
 μ-loop a₀ b₀ n answer₀ left₀ a b answer left = left

@@ -1,12 +1,12 @@
 -- `script::line::byte_from` meets its contract.
 -- Assumes nothing.
-use Rattle.script.specs.Line.{byteFrom}
+use Rattle.script.specs.Line.{scriptByte}
 use borrow.Author.Needs.{needs}
 use Rattle.script.proofs.line.byte_from.Statement.{statement}
 use Rattle.script.proofs.line.byte_from.Tie as tie
 
 pub byte-from-spec : {M : Type 1} → statement M
-unfolding byteFrom
+unfolding scriptByte
 byte-from-spec =
     tie.close
     (tie.spec

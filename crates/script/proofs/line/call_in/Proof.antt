@@ -1,12 +1,12 @@
--- `script::line::call_in` meets its contract: the tests are those of `callIn`, in the same order.
+-- `script::line::call_in` meets its contract: the tests are those of `scriptCall`, in the same order.
 -- Assumes nothing.
-use Rattle.script.specs.Line.{callIn}
+use Rattle.script.specs.Line.{scriptCall}
 use borrow.Author.Needs.{needs}
 use Rattle.script.proofs.line.call_in.Statement.{statement}
 use Rattle.script.proofs.line.call_in.Tie as tie
 
 pub call-in-spec : {M : Type 1} → statement M
-unfolding callIn
+unfolding scriptCall
 call-in-spec =
     tie.close
     (tie.spec

@@ -1,12 +1,12 @@
 -- `script::line::ended` meets its contract.
 -- Assumes nothing.
-use Rattle.script.specs.Line.{endedAt}
+use Rattle.script.specs.Line.{scriptEnded}
 use borrow.Author.Needs.{needs}
 use Rattle.script.proofs.line.ended.Statement.{statement}
 use Rattle.script.proofs.line.ended.Tie as tie
 
 pub ended-spec : {M : Type 1} → statement M
-unfolding endedAt
+unfolding scriptEnded
 ended-spec =
     tie.close
     (tie.spec

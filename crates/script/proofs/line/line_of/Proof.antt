@@ -2,13 +2,13 @@
 -- Assumes nothing.
 use mathlib.Core.Path.{sym}
 use lib.Seq.{length-take-le}
-use Rattle.script.specs.Line.{lineOf}
+use Rattle.script.specs.Line.{scriptLine}
 use borrow.Author.Needs.{needs}
 use Rattle.script.proofs.line.line_of.Statement.{statement}
 use Rattle.script.proofs.line.line_of.Tie as tie
 
 pub line-of-spec : {M : Type 1} → statement M
-unfolding lineOf
+unfolding scriptLine
 line-of-spec =
     tie.close
     (tie.spec

@@ -1,6 +1,6 @@
 -- `script::line::line_within` meets its contract: up to 255 bytes are read as a line.
 -- Assumes nothing.
-use Rattle.script.specs.Line.{lineWithin}
+use Rattle.script.specs.Line.{scriptWithin}
 use lib.Seq.{length-take-le}
 use mathlib.Core.Path.{sym}
 use borrow.Author.Tests.{lt-ltb, le-ltb}
@@ -9,7 +9,7 @@ use Rattle.script.proofs.line.line_within.Statement.{statement}
 use Rattle.script.proofs.line.line_within.Tie as tie
 
 pub line-within-spec : {M : Type 1} → statement M
-unfolding lineWithin
+unfolding scriptWithin
 line-within-spec =
     tie.close
     (tie.spec

@@ -1,12 +1,12 @@
 -- `script::line::read_from` meets its contract.
 -- Assumes nothing.
-use Rattle.script.specs.Line.{readFrom}
+use Rattle.script.specs.Line.{scriptRead}
 use borrow.Author.Needs.{needs}
 use Rattle.script.proofs.line.read_from.Statement.{statement}
 use Rattle.script.proofs.line.read_from.Tie as tie
 
 pub read-from-spec : {M : Type 1} → statement M
-unfolding readFrom
+unfolding scriptRead
 read-from-spec =
     tie.close
     (tie.spec

@@ -1,12 +1,12 @@
 -- `script::line::write_from` meets its contract.
 -- Assumes nothing.
-use Rattle.script.specs.Line.{writeFrom}
+use Rattle.script.specs.Line.{scriptWrite}
 use borrow.Author.Needs.{needs}
 use Rattle.script.proofs.line.write_from.Statement.{statement}
 use Rattle.script.proofs.line.write_from.Tie as tie
 
 pub write-from-spec : {M : Type 1} → statement M
-unfolding writeFrom
+unfolding scriptWrite
 write-from-spec =
     tie.close
     (tie.spec

@@ -1,12 +1,12 @@
 -- `fdc::record::Controller::start` meets its contract.
 -- Assumes nothing.
-use Rattle.fdc.specs.Ticks.{startOf}
+use Rattle.fdc.specs.Ticks.{startTick}
 use borrow.Author.Needs.{needs}
 use Rattle.fdc.proofs.record.Controller.start.Statement.{statement}
 use Rattle.fdc.proofs.record.Controller.start.Tie as tie
 
 pub start-spec : {M : Type 1} → statement M
-unfolding startOf
+unfolding startTick
 start-spec =
     tie.close
     (tie.spec

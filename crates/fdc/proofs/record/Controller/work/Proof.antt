@@ -1,12 +1,12 @@
 -- `fdc::record::Controller::work` meets its contract.
 -- Assumes nothing.
-use Rattle.fdc.specs.Ticks.{workOf}
+use Rattle.fdc.specs.Ticks.{workTick}
 use borrow.Author.Needs.{needs}
 use Rattle.fdc.proofs.record.Controller.work.Statement.{statement}
 use Rattle.fdc.proofs.record.Controller.work.Tie as tie
 
 pub work-spec : {M : Type 1} → statement M
-unfolding workOf
+unfolding workTick
 work-spec =
     tie.close
     (tie.spec

@@ -1,12 +1,12 @@
 -- `script::tally::Tally::called` meets its contract.
 -- Assumes nothing.
-use Rattle.script.specs.Tally.{calledOf}
+use Rattle.script.specs.Tally.{talliedOf}
 use borrow.Author.Needs.{needs}
 use Rattle.script.proofs.tally.Tally.called.Statement.{statement}
 use Rattle.script.proofs.tally.Tally.called.Tie as tie
 
 pub called-spec : {M : Type 1} → statement M
-unfolding calledOf
+unfolding talliedOf
 called-spec =
     tie.close
     (tie.spec
