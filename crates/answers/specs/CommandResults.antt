@@ -17,7 +17,7 @@ use Rattle.fdc.specs.Ticks.{seenOf, protectedIn}
 use Rattle.answers.specs.Registers.{Free}
 use Rattle.demands.specs.Work.{Real}
 
--- so many results wait, without INT (R19)
+-- so many results wait, without INT (D-119)
 pub record Said (e : Controller) (first second left : ℕ) : Type 0 where
   pub waits : e .phase ≡ Answering false
   pub count : e .bytes .left ≡ left

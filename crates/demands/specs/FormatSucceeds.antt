@@ -26,7 +26,7 @@ use Rattle.demands.specs.InTime.{AtTick, InTime}
 use Rattle.demands.specs.PowerCut.{headOf}
 use Rattle.demands.specs.Work.{atWork, Its, Alone, Ends}
 
--- each tick at work finds the request off, or n bytes handed over: the request knows no count (R14), the host does
+-- each tick at work finds the request off, or n bytes handed over: the request knows no count (D-114), the host does
 unfoldable pub ServedUpTo : ℕ → List Call → Controller → History → Type 0
 ServedUpTo n [] c h = Unit {0}
 ServedUpTo n (call ∷ calls) c h =

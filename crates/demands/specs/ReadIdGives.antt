@@ -50,7 +50,7 @@ pub record Gives (order : Order) (normal : Bool) (st1 : ℕ) (id : Id) (e : Cont
   pub st2 : resultByte 2 e ≡ 0x00
   pub address : resultId e ≡ id
 
--- any mark 1 to 5, any N (R15); the motor on, nobody resets the box or changes the image, and the bound's ticks come
+-- any mark 1 to 5, any N (D-115); the motor on, nobody resets the box or changes the image, and the bound's ticks come
 abbrev pub ReadIdGives : (Controller → Type 0) → Type 0
 ReadIdGives From =
     (c : Controller) → From c → (order : Order) → Identifies c order

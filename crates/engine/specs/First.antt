@@ -64,7 +64,7 @@ givenId (Format plan) drive side head = formatId plan drive head side 0
 abbrev pub taskOf : Transfer → Id → Task
 taskOf transfer id = record { transfer = transfer; id = id; other = false }
 
--- 01 FIFO: from host on once the first tests pass. A command's first search starts at slot 0 (R2)
+-- 01 FIFO: from host on once the first tests pass. A command's first search starts at slot 0 (D-102)
 unfoldable pub movingOf : Pass → Transfer → Id → Site → Fifo → Step
 movingOf Read transfer id site fifo = movesOf (Searching (freshAt 0)) site (taskOf transfer id) fifo Nothing
 movingOf Write transfer id site fifo = movesOf (Searching (freshAt 0)) site (taskOf transfer id) (openedOf fifo) Nothing

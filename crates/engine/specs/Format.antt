@@ -25,7 +25,7 @@ use Rattle.sectors.specs.Track.{dataPlace, markPlace, sectorBytes}
 abbrev pub formatHead : ℕ → ℕ → ℕ
 formatHead drive head = cond (ltb drive 2) head 0
 
--- 01 Format: C H R N: head, side, slots done, N, at every end (R14)
+-- 01 Format: C H R N: head, side, slots done, N, at every end (D-114)
 abbrev pub formatId : Plan → ℕ → ℕ → ℕ → ℕ → Id
 formatId plan drive head side done =
     record { c = formatHead drive head; h = side; r = done; n = plan .n }
@@ -34,7 +34,7 @@ unfoldable pub formatEnd : Bool → ℕ → ℕ → Effect → Site → Plan →
 formatEnd normal st1 done effect site plan head =
     endOf normal (site .drive) (site .side) st1 0x00 (formatId plan (site .drive) head (site .side) done) effect
 
--- slots done counts formatted slots: SC from the last of them on (R14)
+-- slots done counts formatted slots: SC from the last of them on (D-114)
 abbrev pub doneOf : Form → Plan → ℕ
 doneOf (Awaiting slot wait) plan = slot
 doneOf (Addressing slot k) plan = slot

@@ -36,7 +36,7 @@ noIdHere slot passes site fifo =
 unfoldable pub idHere : Id → Site → Step
 idHere id site = endOf true (site .drive) (site .side) 0x00 0x00 id Nothing
 
--- any mark 1 to 5, any N (R15)
+-- any mark 1 to 5, any N (D-115)
 unfoldable pub identifiedOf : Mark → Id → ℕ → ℕ → Site → Fifo → Step
 identifiedOf NoId id slot passes site fifo = noIdHere slot passes site fifo
 identifiedOf (Data deleted broken) id slot passes site fifo = idHere id site

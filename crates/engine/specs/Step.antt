@@ -52,7 +52,7 @@ workStep (Identifying site slot passes) head img fifo efifo fifothr = identifyOf
 workStep (Moving site task stage) head img fifo efifo fifothr = stageOf stage site task head img fifo efifo fifothr
 workStep (Formatting site plan form) head img fifo efifo fifothr = formOf form site plan head fifo efifo fifothr
 
--- 01 Data commands: a drive emptied or header changed later: ST1 01 at that tick, before all else (R17)
+-- 01 Data commands: a drive emptied or header changed later: ST1 01 at that tick, before all else (D-117)
 unfoldable pub goOnOf : Work → Disk → ℕ → List ℕ → Fifo → Bool → ℕ → Step
 goOnOf work disk head img fifo efifo fifothr =
     cond (staysOf disk (siteOf work .disk)) (workStep work head img fifo efifo fifothr) (lostOf work head)

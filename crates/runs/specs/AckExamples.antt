@@ -1,5 +1,5 @@
 -- Write commands to their end, call by call: the premises of `Acknowledged` are met, and its clauses are no stronger
--- than they may be: with ST1 80 a byte that the host handed over may be lost (01 Write, R12).
+-- than they may be: with ST1 80 a byte that the host handed over may be lost (01 Write, D-112).
 -- Assumes nothing.
 use Prim.Native.Nat.{ℕ}
 use mathlib.Core.Bool.{Bool, true, false}

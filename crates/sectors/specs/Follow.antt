@@ -19,7 +19,7 @@ use Rattle.sectors.specs.Result.{moveEnd, moveFails, movesOf}
 use Rattle.sectors.specs.Track.{hasTrack, nextSlot}
 use mathlib.Core.Bool.{cond}
 
--- 01 Search: each search counts its own passes, and judges the IDs met anew (R4)
+-- 01 Search: each search counts its own passes, and judges the IDs met anew (D-104)
 abbrev pub freshAt : ℕ → Search
 freshAt slot = record { slot = slot; passes = 0; met = false; wrong = false; bad = false }
 
@@ -30,7 +30,7 @@ abbrev pub onSide : ℕ → Site → Site
 onSide side site = record { drive = site .drive; side = side; disk = site .disk }
 
 -- 01 Next, Result: TC ends normally, EOT with ST1 80; the search goes on behind the slot used, on the other side too
--- (R2)
+-- (D-102)
 unfoldable pub followedOf : Next → ℕ → Site → Task → Fifo → Effect → Step
 followedOf (Ended id) slot site task fifo effect = moveEnd true 0x00 0x00 id effect site task
 followedOf (PastEot id) slot site task fifo effect = moveEnd false 0x80 0x00 id effect site task
@@ -48,7 +48,7 @@ followOf slot tc site task fifo effect =
     followedOf (nextOf (task .id) (task .transfer .eot) (task .transfer .mt) (site .side) (stepOf task) tc) slot site task
     fifo effect
 
--- 01 Data commands: for an MT turn, the tests in the tick after it, and nothing else in that tick (R1)
+-- 01 Data commands: for an MT turn, the tests in the tick after it, and nothing else in that tick (D-101)
 unfoldable pub turnOf : ℕ → Site → Task → ℕ → Fifo → Step
 turnOf slot site task head fifo =
     cond (hasTrack (site .disk) head (site .side)) (movesOf (Searching (freshAt slot)) site task fifo Nothing)

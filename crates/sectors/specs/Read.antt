@@ -36,7 +36,7 @@ readOn sector done site task fifo =
     (movesOf (Reading sector (done + 1)) site task fifo Nothing)
 
 -- 01 Read: a byte a tick; after TC no byte follows and the sector is run to its end. The byte is that of the image
--- lent to this tick (R16)
+-- lent to this tick (D-116)
 unfoldable pub readOf : Sector → ℕ → Site → Task → ℕ → List ℕ → Fifo → Bool → ℕ → Step
 readOf sector done site task head img fifo efifo fifothr =
     cond (fifo .tc) (readOn sector done site task fifo)
@@ -45,7 +45,7 @@ readOf sector done site task head img fifo efifo fifothr =
     (filledOf efifo fifothr (lastByte site task done) (getD img (dataPlace site head (sector .slot) done) 0) fifo)))
 
 -- 01 Read: a look that finds none, in this order: broken, ST1 20, ST2 20; other kind, IC 00, address as it was,
--- before TC (R9); else Next
+-- before TC (D-109); else Next
 unfoldable pub drainedOf : Sector → Site → Task → Fifo → Step
 drainedOf sector site task fifo =
     cond (sector .broken) (moveFails 0x20 0x20 site task)
@@ -53,7 +53,7 @@ drainedOf sector site task fifo =
     (followOf (sector .slot) (fifo .tc) site task fifo Nothing))
 
 -- 01 Read: after the last byte each tick looks at the FIFO: the 64th that finds bytes ends it, ST1 10. A byte taken
--- does not count them anew (R10)
+-- does not count them anew (D-110)
 unfoldable pub drainOf : Sector → ℕ → Site → Task → Fifo → Step
 drainOf sector looks site task fifo =
     cond (eqb (fifo .count) 0) (drainedOf sector site task fifo)

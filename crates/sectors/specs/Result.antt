@@ -33,7 +33,7 @@ endOf normal drive side st1 st2 id effect =
       effect = effect;
     }
 
--- 01 Read: another kind of mark met: ST2 40 from then on, in every later end (R8)
+-- 01 Read: another kind of mark met: ST2 40 from then on, in every later end (D-108)
 abbrev pub otherBit : Bool → ℕ
 otherBit other = cond other 0x40 0x00
 

@@ -29,7 +29,7 @@ matches id wanted n =
     eqb (id .c) (wanted .c) && eqb (id .h) (wanted .h) && eqb (id .r) (wanted .r) && eqb (id .n) (wanted .n)
     && eqb (id .n) n
 
--- an ID that does not match, whatever its H, R, N and mark (R4): met, with another C below FF,
+-- an ID that does not match, whatever its H, R, N and mark (D-104): met, with another C below FF,
 -- with another C that is FF
 abbrev pub noted : Id → Id → Search → Search
 noted id wanted look =
@@ -68,7 +68,7 @@ oneOn look slots =
       bad = look .bad;
     }
 
--- 01 Search: one pass when slot S - 1 is looked at and doesn't match (R3); the second fails
+-- 01 Search: one pass when slot S - 1 is looked at and doesn't match (D-103); the second fails
 unfoldable pub missedOf : Search → Site → Task → Fifo → Step
 missedOf look site task fifo =
     cond (secondPass (look .slot) (site .disk .slots) (look .passes)) (notFound look site task)
@@ -79,20 +79,20 @@ abbrev pub withOther : Bool → Task → Task
 withOther other task = record { transfer = task .transfer; id = task .id; other = task .other || other }
 
 -- 01 Read: SK 1 skips another kind in the tick of the match, broken or not, by Next; a skipped slot counts as used
--- (R2). The mark seen at the match holds to the sector's end
+-- (D-102). The mark seen at the match holds to the sector's end
 unfoldable pub readFound : Bool → Bool → ℕ → Site → Task → Fifo → Step
 readFound other broken slot site task fifo =
     cond (other && task .transfer .sk) (followOf slot (fifo .tc) site (withOther other task) fifo Nothing)
     (movesOf (Reading (record { slot = slot; broken = broken; other = other }) 0) site (withOther other task) fifo
     Nothing)
 
--- a match with data: a Write waits for its byte, whatever stood there (R13)
+-- a match with data: a Write waits for its byte, whatever stood there (D-113)
 unfoldable pub dataFound : Pass → Bool → Bool → ℕ → Site → Task → Fifo → Step
 dataFound Read deleted broken slot site task fifo =
     readFound (not (Bool·beq deleted (task .transfer .deleted))) broken slot site task fifo
 dataFound Write deleted broken slot site task fifo = movesOf (Awaiting slot 0) site task fifo Nothing
 
--- 01 Read: mark 5: ST1 01, ST2 01. A write takes mark 5 too (R13)
+-- 01 Read: mark 5: ST1 01, ST2 01. A write takes mark 5 too (D-113)
 unfoldable pub bareFound : Pass → ℕ → Site → Task → Fifo → Step
 bareFound Read slot site task fifo = moveFails 0x01 0x01 site task
 bareFound Write slot site task fifo = movesOf (Awaiting slot 0) site task fifo Nothing

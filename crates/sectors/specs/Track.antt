@@ -15,7 +15,7 @@ use Rattle.sectors.specs.declared.work.Task.{Task}
 unfoldable pub hasTrack : Geometry → ℕ → ℕ → Bool
 hasTrack g head side = ltb head (g .cylinders) && ltb side (g .heads)
 
--- 01 Data commands: a drive emptied or header changed later: any of the header's five bytes (R17)
+-- 01 Data commands: a drive emptied or header changed later: any of the header's five bytes (D-117)
 unfoldable pub staysOf : Disk → Geometry → Bool
 staysOf Absent met = false
 staysOf (Present g) met = sameOf g met
@@ -40,6 +40,6 @@ passOf n dtl = sizeOf n
 abbrev pub passBytes : Site → Task → ℕ
 passBytes site task = passOf (site .disk .n) (task .transfer .dtl)
 
--- 01 Search: from the slot after the last used, which after slot S - 1 is slot 0 (R2)
+-- 01 Search: from the slot after the last used, which after slot S - 1 is slot 0 (D-102)
 abbrev pub nextSlot : ℕ → ℕ → ℕ
 nextSlot slot slots = cond (ltb (slot + 1) slots) (slot + 1) 0

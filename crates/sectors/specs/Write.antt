@@ -20,7 +20,7 @@ use Rattle.sectors.specs.Track.{dataPlace, markPlace, sectorBytes}
 unfoldable pub underrun : Site → Task → Step
 underrun site task = moveFails 0x10 0x00 site task
 
--- the marks stored are of the command's kind, whatever stood there (R13)
+-- the marks stored are of the command's kind, whatever stood there (D-113)
 abbrev pub writtenMark : Bool → Task → ℕ
 writtenMark broken task = byteOf (Data (task .transfer .deleted) broken)
 
@@ -42,7 +42,7 @@ unfoldable pub dryOf : ℕ → ℕ → Site → Task → ℕ → Fifo → Step
 dryOf slot done site task head fifo =
     cond (fifo .tc) (putOf 0x00 slot done site task head fifo) (underrun site task)
 
--- 01 Write: good mark, and Next in that same tick; TC counts there with the FIFO empty (R12)
+-- 01 Write: good mark, and Next in that same tick; TC counts there with the FIFO empty (D-112)
 unfoldable pub writtenOf : ℕ → Site → Task → ℕ → Fifo → Step
 writtenOf slot site task head fifo =
     followOf slot (fifo .tc && eqb (fifo .count) 0) site task fifo
