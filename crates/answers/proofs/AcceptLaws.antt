@@ -16,6 +16,7 @@ use Rattle.chip.specs.declared.codes.Kind.the-variants.{Unknown, ReadData, Read
 use Rattle.chip.specs.declared.codes.Kind.the-variants.{Format, Recalibrate, SenseInterrupt, Specify, SenseDrive, Seek}
 use Rattle.chip.specs.declared.codes.Kind.the-variants.{Version, Configure}
 use Rattle.chip.specs.Commands.{kindOf, byteCount, entryOf, mtOf, skOf}
+use Rattle.chip.specs.Fifo.{emptied}
 use Rattle.drive.specs.declared.Motion.{Motion}
 use Rattle.drive.specs.Drive.{accepted, seekOf, recalibrateOf}
 use Rattle.sectors.specs.declared.order.Order.{Order}
