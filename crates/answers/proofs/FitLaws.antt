@@ -52,7 +52,7 @@ use Rattle.fdc.specs.Registers.{motorIn}
 use Rattle.fdc.specs.Ticks.{seenOf}
 use Rattle.reached.specs.Runs.{Call, after, runCalls}
 use Rattle.reached.proofs.RuleLaws.{told-room, rule-of}
-use Rattle.reached.proofs.Rules.{Acts, begins, goes-on, bytesThen, phaseThen, Rest, refuses, shows, steps, flags, sets, anew, took, gave, gathers, says, idles, specifies, configures, senses, starts, acts}
+use Rattle.reached.proofs.Rules.{Acts, begins, goes-on, bytesThen, phaseThen, Rest, refuses, shows, steps, flags, sets, anew, took-byte, gave-byte, gathers, says, idles, specifies, configures, senses, starts, acts}
 use Rattle.answers.specs.OnlyWrites.{suitedIn}
 use Rattle.demands.specs.Work.{OfBytes, AllOfBytes, Real}
 use Rattle.demands.proofs.BoundLaws.{ProperWork, ProperThen, begin-falls, go-on-falls}
@@ -212,8 +212,8 @@ module _ (call : Call) (c : Controller) (q : Quiet c) (z : Fit c) where
   fits ds reply r f b p (flags drive e) = same
   fits ds reply r f b p (sets offset byte e o n s) = same
   fits ds reply r f b p (anew x reply′ n e t s still) = record { room = refl; phase = tt; left = tt }
-  fits ds reply r f b p (took tc x work e h asks) = same
-  fits ds reply r f b p (gave byte tc x work e h asks) = same
+  fits ds reply r f b p (took-byte tc x work e h asks) = same
+  fits ds reply r f b p (gave-byte byte tc x work e h asks) = same
   fits ds reply r f b p (gathers b′ t l o m k) = record {
     room = told-room call c _ t (z .room);
     phase = tt;

@@ -1,4 +1,4 @@
--- The sector onByOne this one: document 01, Data commands, "Next", and of "Result" the address where Next ends the
+-- The sector after this one: document 01, Data commands, "Next", and of "Result" the address where Next ends the
 -- command. The status bytes of each end are said where the result is made.
 -- Assumes nothing.
 use Prim.Native.Nat.{ℕ, _+_, _-_, _*_, _/_, _%_}

@@ -71,7 +71,7 @@ cost g = 2 * g .slots + sizeOf (g .n) + 70
 unfoldable pub ahead : List ℕ → Site → ℕ → ℕ → ℕ → ℕ
 ahead img site head r eot = count (λ i. near r eot (slotOf img site head i .id .r)) (site .disk .slots)
 
--- of the sectors onByOne the one in hand, on this side
+-- of the sectors after the one in hand, on this side
 unfoldable pub later : List ℕ → Site → ℕ → ℕ → ℕ → ℕ
 later img site head r eot = cond (eqb r eot) 0 (ahead img site head (onByOne r) eot)
 
@@ -630,7 +630,7 @@ module _ (img : List ℕ) (head : ℕ) (site : Site) (plan : Plan) (fifo : Fifo)
   form-falls (Filling slot done) efifo fifothr w = fill-falls slot done efifo fifothr w
   form-falls (Clearing slot) efifo fifothr w = clear-on-falls (Clearing slot) slot _ w (λ k. omega arith)
 
--- a tick onByOne the first, of any work: fewer ticks are left
+-- a tick after the first, of any work: fewer ticks are left
 module _ (img : List ℕ) (head : ℕ) (fifo : Fifo) (efifo : Bool) (fifothr : ℕ) where
   abbrev Work-falls : Work → Step → Type 0
   Work-falls work o = Falls (siteOf work .disk) img head (workLeft img head work) o

@@ -37,7 +37,7 @@ use Rattle.reached.proofs.GoodLaws.{good-valid}
 use Rattle.reached.proofs.MoveLaws.{calm-stays}
 use Rattle.reached.proofs.RuleLaws.{collects-unengaged, rule-of}
 use Rattle.reached.proofs.Rules.{engaged, Restarts, by-power, by-dor, by-dsr, DriveRule, kept, noted, powered, reset, restarted, released, sensed, set-off, ticked, Takes, by-read, by-cycle, Gives, by-write, by-dma, Told, Rest, refuses, shows, steps, flags, sets, anew, gathers, says, idles, specifies, configures, senses, starts, acts}
-use Rattle.reached.proofs.Rules.{took as took-byte, gave as gave-byte}
+use Rattle.reached.proofs.Rules.{took-byte, gave-byte}
 use Rattle.demands.specs.HandedOver.{Taken, tookOne, takenBy}
 use Rattle.demands.specs.History.{History, handed, historyBy}
 use Rattle.demands.specs.Quiet.{Quiet}

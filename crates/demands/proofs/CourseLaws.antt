@@ -14,7 +14,7 @@ use Rattle.reached.specs.Runs.{Call, ticks, after}
 use Rattle.demands.specs.DataError.{Spins}
 use Rattle.demands.specs.InTime.{AtTick, AtTicks}
 use Rattle.demands.specs.Quiet.{Proper, Quiet}
-use Rattle.demands.specs.Work.{atWork, imageBy, Handed, Alone, Ends, Anyhow}
+use Rattle.demands.specs.Work.{atWork, imageBy, Handed, Alone, EndsWith, Anyhow}
 use Rattle.demands.proofs.CallRules.{NoTick}
 use Rattle.demands.proofs.SplitLaws.{tick-or-not, at-tick, image-same}
 use Rattle.demands.proofs.QuietLaws.{quiet-after}
@@ -80,8 +80,8 @@ low-drive e order q p = go (e .phase) p (q .proper)
 
 -- another conclusion
 pub ends-map : (P Q : Controller → Type 0) → ((c : Controller) → P c → Q c) → (calls : List Call) (c : Controller)
-    → Ends P calls c → Ends Q calls c
-unfolding Ends
+    → EndsWith P calls c → EndsWith Q calls c
+unfolding EndsWith
 ends-map P Q f [] c (a, x) = (a, f c x)
 ends-map P Q f (call ∷ calls) c (inl (a, x)) = inl (a, f c x)
 ends-map P Q f (call ∷ calls) c (inr (w, rest)) = inr (w, ends-map P Q f calls (after call c) rest)
@@ -111,8 +111,8 @@ module _ (drive : ℕ) (Tick : Controller → Type 0) (Course : Controller → L
 
   -- if it ends, it ends so
   pub course-ends : (calls : List Call) (c : Controller) (img : List ℕ) → Quiet c → Course c img → Spins drive calls c
-      → Alone drive img calls c → AtTicks Tick calls c → Ends Anyhow calls c → Ends Said calls c
-  unfolding Ends Spins Alone AtTicks
+      → Alone drive img calls c → AtTicks Tick calls c → EndsWith Anyhow calls c → EndsWith Said calls c
+  unfolding EndsWith Spins Alone AtTicks
   course-ends [] c img q k s l n (a, u) = (a, over c img k a)
   course-ends (call ∷ calls) c img q k s l n (inl (a, u)) = inl (a, over c img k a)
   course-ends (call ∷ calls) c img q k s l n (inr (w, rest)) =
@@ -164,7 +164,7 @@ module _ (order : Order) (low : order .drive < 4) (cylinder : ℕ) (img : List �
 
   pub still-ends : (calls : List Call) (c : Controller) → Quiet c → driveAt (order .drive) (c .drives) .head ≡ cylinder
       → Way c → Spins (order .drive) calls c → Alone (order .drive) img calls c → AtTicks Tick calls c
-      → Ends Anyhow calls c → Ends Said calls c
+      → EndsWith Anyhow calls c → EndsWith Said calls c
   still-ends calls c q h way =
       course-ends (order .drive) Tick Still Said still-call still-tick (λ e image k. over e (k .way)) calls c img q
       (record { same = refl; head-is = h; way = way })

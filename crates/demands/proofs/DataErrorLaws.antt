@@ -17,7 +17,6 @@ use Rattle.sectors.specs.declared.work.Site.{Site}
 use Rattle.sectors.specs.declared.work.Stage.{Stage}
 use Rattle.sectors.specs.declared.work.Stage.the-variants.{Searching}
 use Rattle.sectors.specs.declared.work.Step.{Step}
-use Rattle.sectors.specs.declared.work.Then.the-variants.{Ends}
 use Rattle.sectors.specs.declared.work.Work.the-variants.{Moving}
 use Rattle.engine.specs.First.{gateOf, taskOf, movingOf, startJob, enteredOf, beginOf}
 use Rattle.sectors.specs.Follow.{freshAt}
@@ -51,8 +50,7 @@ use Rattle.demands.specs.EndsInTime.{boundOf}
 use Rattle.demands.specs.History.{Sector, Begun, no-one, some-of, History, noHistory, historyOf}
 use Rattle.demands.specs.InTime.{Late, LatePhase, AtTicks}
 use Rattle.demands.specs.PowerCut.{Aim, Stands, Spares, AllFinished, BegunHalf, SparesAll, SparesBegun, LeftBy, Writes, headOf}
-use Rattle.demands.specs.Work.{Real, atWork, Its, imageLeft, Alone, Anyhow}
-use Rattle.demands.specs.Work as command
+use Rattle.demands.specs.Work.{Real, atWork, Its, imageLeft, Alone, Anyhow, EndsWith}
 use Rattle.demands.proofs.CallRules.{NoTick, Keeps}
 use Rattle.demands.specs.Quiet.{Quiet}
 use Rattle.demands.proofs.CourseLaws.{same-geometry, tick-record, tick-head, tick-image, low-drive, ends-map, all-ticks, course-ends}
@@ -241,7 +239,7 @@ module _ (img : List ℕ) (g : Geometry) (disk : diskIn img ≡ Present g) (orde
   -- if it ends, it ends so
   pub ends-so : (calls : List Call) (c : Controller) → FollowsRead order g head t transfer id other L c
       → Spins (order .drive) calls c → Alone (order .drive) img calls c → AtTicks (LateIs L) calls c
-      → command.Ends Anyhow calls c → command.Ends (ReadOver other site id L) calls c
+      → EndsWith Anyhow calls c → EndsWith (ReadOver other site id L) calls c
   ends-so calls c f spins alone late-is over-by =
       course-ends (order .drive) (LateIs L) Course (ReadOver other site id L)
       (λ call e image q w n calm k. (k .0, follow-call call e q w n calm (k .1))) tick-course
@@ -347,7 +345,7 @@ module _ (c : Controller) (qc : Quiet c) (order : Order) (transfer : Transfer) (
   ends-over : (calls′ : List Call) → Spins (order′ .drive) calls′ e
       → Alone (order′ .drive) (imageLeft (order .drive) old calls c) calls′ e → boundOf g ≤ tickCount calls′
       → AtTicks (LateIs L) calls′ e
-      → command.Ends (ReadOver (differs (transfer .deleted) transfer′) there id′ L) calls′ e
+      → EndsWith (ReadOver (differs (transfer .deleted) transfer′) there id′ L) calls′ e
   ends-over calls′ spins alone′ more timely =
       let present = fits-present old g (sound .fits) in
       let img : List ℕ = imageLeft (order .drive) old calls c in

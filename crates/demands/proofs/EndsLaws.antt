@@ -40,7 +40,7 @@ use Rattle.reached.specs.Runs.{Call, ticks, after}
 use Rattle.fdc.specs.Ticks.{seenOf, sensedAt, stillOf, settledOf, decidedOf, decideIn, decideOf, ruledOf, imageAfter}
 use Rattle.reached.proofs.GoodLaws.{good-valid}
 use Rattle.demands.specs.EndsInTime.{boundOf, EndsInTime, EndsInOne, SensesInOne}
-use Rattle.demands.specs.Work.{atWork, imageBy, Handed, Alone, Ends, Anyhow, Real}
+use Rattle.demands.specs.Work.{atWork, imageBy, Handed, Alone, EndsWith, Anyhow, Real}
 use Rattle.demands.proofs.BoundLaws.{workLeft, thenLeft, ProperWork, ProperThen, Falls, work-pos, go-on-falls, begin-falls}
 use Rattle.demands.proofs.CallLaws.{tick-starts, tick-works, call-rule, after-tick}
 use Rattle.demands.proofs.CallRules.{NoTick, CallRule, cut-off, goes-on}
@@ -236,8 +236,8 @@ module _ (drive : ℕ) (g : Geometry) where
   -- no more ticks than are left
   pub ends-by : (calls : List Call) (img : List ℕ) (c : Controller) → Quiet c → On drive g (c .phase)
       → diskIn img ≡ Present g → Alone drive img calls c
-      → phaseLeft drive g img (headAt drive c) (c .phase) ≤ tickCount calls → Ends Anyhow calls c
-  unfolding Ends Alone
+      → phaseLeft drive g img (headAt drive c) (c .phase) ≤ tickCount calls → EndsWith Anyhow calls c
+  unfolding EndsWith Alone
   ends-by [] img c q o d alone l = go (atWork (c .phase)) refl
     where
       go : (t : Bool) → atWork (c .phase) ≡ t → (atWork (c .phase) ≡ false) × Anyhow c
@@ -249,8 +249,8 @@ module _ (drive : ℕ) (g : Geometry) where
     where
       go : (t : Bool) → atWork (c .phase) ≡ t
           → (atWork (c .phase) ≡ true → Goes drive g img call c
-          → Alone drive (imageBy drive img call c) calls (after call c) → Ends Anyhow calls (after call c))
-          → ((atWork (c .phase) ≡ false) × Anyhow c) ⊎ ((atWork (c .phase) ≡ true) × Ends Anyhow calls (after call c))
+          → Alone drive (imageBy drive img call c) calls (after call c) → EndsWith Anyhow calls (after call c))
+          → ((atWork (c .phase) ≡ false) × Anyhow c) ⊎ ((atWork (c .phase) ≡ true) × EndsWith Anyhow calls (after call c))
       go true e ih = inr (e, ih e (call-goes img call c q e o d (alone e .0)) (alone e .1))
       go false e ih = inl (e, tt)
 

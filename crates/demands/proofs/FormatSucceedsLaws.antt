@@ -43,7 +43,7 @@ use Rattle.demands.specs.History.{History, noHistory, historyBy}
 use Rattle.demands.specs.InTime.{LateForm, AtTick, AtTicks, Timely, InTime}
 use Rattle.demands.specs.PowerCut.{headOf}
 use Rattle.demands.specs.Quiet.{Quiet}
-use Rattle.demands.specs.Work.{atWork, imageBy, Handed, Alone, Ends, Anyhow, Real}
+use Rattle.demands.specs.Work.{atWork, imageBy, Handed, Alone, EndsWith, Anyhow, Real}
 use Rattle.demands.proofs.CallLaws.{tick-starts, tick-works, calm-keeps, after-tick}
 use Rattle.demands.proofs.SplitLaws.{tick-or-not}
 use Rattle.demands.proofs.CourseLaws.{same-geometry}
@@ -160,9 +160,9 @@ module _ (g : Geometry) (cylinder : ℕ) (order : Order) (plan : Plan) (old : Li
       (λ x n calm e s. inr (ap atWork (calm-keeps x c q w n calm .phase) ∙ w)) call calm e s
 
   ends-well : (calls : List Call) (c : Controller) (img : List ℕ) (h : History) (m : ℕ) → Quiet c → Running c img h m
-      → Fine c → Spins drive calls c → Alone drive img calls c → InTime calls c → Ends Anyhow calls c
-      → Ends Done calls c
-  unfolding Ends Spins Alone AtTicks
+      → Fine c → Spins drive calls c → Alone drive img calls c → InTime calls c → EndsWith Anyhow calls c
+      → EndsWith Done calls c
+  unfolding EndsWith Spins Alone AtTicks
   ends-well [] c img h m q r f spins alone timely any = (any .0, over-done c (any .0) f)
   ends-well (call ∷ calls) c img h m q r f spins alone timely (inl over) = inl (over .0, over-done c (over .0) f)
   ends-well (call ∷ calls) c img h m q r f spins alone timely (inr (w, any)) =

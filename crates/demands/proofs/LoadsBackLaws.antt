@@ -46,8 +46,7 @@ use Rattle.demands.specs.RoundTrip.{
   GivenBack,
 }
 use Rattle.demands.specs.Succeeds.{Fill, Success}
-use Rattle.demands.specs.Work.{Real, Its, Alone, imageLeft}
-use Rattle.demands.specs.Work as command
+use Rattle.demands.specs.Work.{Real, Its, Alone, imageLeft, EndsWith}
 use Rattle.demands.proofs.AcknowledgedLaws.{acknowledged-quiet}
 use Rattle.demands.proofs.HandedOverLaws.{handed-over-quiet, to-start}
 use Rattle.demands.proofs.HeldLaws.{id-same, own-id, sound-holds-quiet}
@@ -71,9 +70,9 @@ record Part (P : Controller → Type 0) (Q : Taken → Type 0) (drive : ℕ) (im
   took : Q (takenOver part c t)
 
 module _ (P : Controller → Type 0) (Q : Taken → Type 0) (drive : ℕ) where
-  part-of : (calls : List Call) (c : Controller) (img : List ℕ) (t : Taken) → command.Ends P calls c
+  part-of : (calls : List Call) (c : Controller) (img : List ℕ) (t : Taken) → EndsWith P calls c
       → Alone drive img calls c → AsTaken Q calls c t → Q t → Part P Q drive img calls c t
-  unfolding command.Ends Alone AsTaken Its runCalls takenOver
+  unfolding EndsWith Alone AsTaken Its runCalls takenOver
   part-of [] c img t (over, p) a s q =
       record { part = []; rest = []; split = refl; its = tt; alone = tt; ends = p; along = tt; took = q }
   part-of (call ∷ calls) c img t (inl (over, p)) a s q =
@@ -202,7 +201,7 @@ module _ (w : Written Quiet) (done : Succeeded w) (some : 0 < length (doneBy w .
   module _ (calls : List Call) (spins : Spins (order .drive) calls c) (alone : Alone (order .drive) later calls c)
       (timely : InTime calls c) (tells : ReadTells bytes calls c untaken)
       (enough : boundOf (w .g) ≤ tickCount calls) where
-    succeeds : command.Ends (Success order transfer aim last) calls c
+    succeeds : EndsWith (Success order transfer aim last) calls c
     unfolding boundOf
     succeeds =
         read-succeeds-in-time-quiet c q order transfer (w .id) (same .accepted) later g′ sound bytes last fill all-good

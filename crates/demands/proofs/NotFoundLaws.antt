@@ -56,8 +56,7 @@ use Rattle.demands.specs.EndsInTime.{boundOf}
 use Rattle.demands.specs.NotFound.{some, hasId, otherBelow, otherFf, Missing, Misses, NotFound}
 use Rattle.demands.specs.PowerCut.{headOf}
 use Rattle.demands.specs.Quiet.{Quiet}
-use Rattle.demands.specs.Work.{Real, atWork, Alone}
-use Rattle.demands.specs.Work as command
+use Rattle.demands.specs.Work.{Real, atWork, Alone, EndsWith}
 use Rattle.demands.proofs.CallLaws.{tick-starts, tick-works}
 use Rattle.demands.proofs.CourseLaws.{same-geometry, low-drive, all-ticks, still-ends}
 use Rattle.demands.proofs.CutLaws.{marked-counts, matches-id}
@@ -441,7 +440,7 @@ module _ (img : List ℕ) (g : Geometry) (disk : diskIn img ≡ Present g) (orde
 
   ends-said : (calls : List Call) (c : Controller) → Quiet c → c .phase ≡ Starting order
       → driveAt (order .drive) (c .drives) .head ≡ cylinder → Spins (order .drive) calls c
-      → Alone (order .drive) img calls c → boundOf g ≤ tickCount calls → command.Ends Said calls c
+      → Alone (order .drive) img calls c → boundOf g ≤ tickCount calls → EndsWith Said calls c
   ends-said calls c q p h spins alone more =
       still-ends order low cylinder img (λ e. Unit {0}) Way Said on-phase step-of over-so calls c q h (starts p) spins
       alone (all-ticks _ (λ x. tt) calls c) (ends-in-time-quiet c q order p img g disk calls alone more)

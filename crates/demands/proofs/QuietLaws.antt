@@ -41,7 +41,7 @@ use Rattle.reached.specs.Good.{Good}
 use Rattle.reached.specs.Runs.{Call, powers, writes, answerTo, after, runCalls}
 use Rattle.reached.proofs.GoodLaws.{four-of, good-power-on, good-after}
 use Rattle.reached.proofs.RuleLaws.{each-of, collects-unengaged, rule-of}
-use Rattle.reached.proofs.Rules.{engaged, DriveRule, kept, noted, powered, reset, restarted, released, sensed, set-off, ticked, Told, Orders, moving, formatting, identifying, Acts, begins, goes-on, bytesThen, phaseThen, Rest, refuses, shows, steps, flags, sets, anew, took, gave, gathers, says, idles, specifies, configures, senses, starts, acts}
+use Rattle.reached.proofs.Rules.{engaged, DriveRule, kept, noted, powered, reset, restarted, released, sensed, set-off, ticked, Told, Orders, moving, formatting, identifying, Acts, begins, goes-on, bytesThen, phaseThen, Rest, refuses, shows, steps, flags, sets, anew, took-byte, gave-byte, gathers, says, idles, specifies, configures, senses, starts, acts}
 use Rattle.demands.specs.Work.{OfBytes, AllOfBytes, Real, atWork}
 use Rattle.demands.specs.Quiet.{ResetQuiet, Proper, AllBytes, Each, StandsStill, Settled, Quiet}
 
@@ -249,8 +249,8 @@ module _ (call : Call) (c : Controller) (drives : List Drive) (bytewise : Bytewi
       byte : (n .spec1 ≡ 0) ⊎ (n .spec1 ≡ c .registers .spec1) → n .spec1 < 256
       byte (inl e) = omega (arith, e)
       byte (inr e) = rw e (q .inner .spec1)
-  calms reply r f b p (took tc x work e h asks) = same
-  calms reply r f b p (gave byte tc x work e h asks) = same
+  calms reply r f b p (took-byte tc x work e h asks) = same
+  calms reply r f b p (gave-byte byte tc x work e h asks) = same
   calms reply r f b p (gathers b′ t l o m k) =
       resting _ _ _ (t .free) refl tt (told-bytes _ t) (q .inner .spec1)
   calms reply r f b p (says h free reply′ results left l m k) =

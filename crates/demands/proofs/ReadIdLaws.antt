@@ -45,10 +45,8 @@ use Rattle.demands.specs.DataError.{Spins}
 use Rattle.demands.specs.EndsInTime.{boundOf}
 use Rattle.demands.specs.PowerCut.{Counts, headOf}
 use Rattle.demands.specs.Quiet.{Quiet}
-use Rattle.demands.specs.ReadIdGives.{FirstId, Gives, ReadIdGives, ReadIdNone}
-use Rattle.demands.specs.ReadIdGives as said
-use Rattle.demands.specs.Work.{Real, atWork, Alone}
-use Rattle.demands.specs.Work as command
+use Rattle.demands.specs.ReadIdGives.{FirstId, Gives, ReadIdGives, ReadIdNone, NoIdThere}
+use Rattle.demands.specs.Work.{Real, atWork, Alone, EndsWith}
 use Rattle.demands.proofs.CallLaws.{tick-starts, tick-works}
 use Rattle.demands.proofs.CourseLaws.{still-ends}
 use Rattle.demands.proofs.CutLaws.{marked-counts}
@@ -75,7 +73,7 @@ module _ (img : List ℕ) (g : Geometry) (disk : diskIn img ≡ Present g) (orde
   -- the first ID is slot k's, or there is none
   data Plan : Type 0 where
     first-at : (k : ℕ) → FirstId g img cylinder (order .side) k → Plan
-    none-at : said.NoId g img cylinder (order .side) → Plan
+    none-at : NoIdThere g img cylinder (order .side) → Plan
 
   abbrev normalBy : Plan → Bool
   normalBy (first-at k f) = true
@@ -122,7 +120,7 @@ module _ (img : List ℕ) (g : Geometry) (disk : diskIn img ≡ Present g) (orde
       goes (slot + 1) passes fifo on (simp (lt-leb (g .slots) (slot + 1) l, lt-ltb (slot + 1) (g .slots) l))
 
   -- the last slot of the track: the first index, or the second
-  index-look : (n : said.NoId g img cylinder (order .side)) (slot passes : ℕ) (fifo : Fifo) → g .slots ≤ slot + 1
+  index-look : (n : NoIdThere g img cylinder (order .side)) (slot passes : ℕ) (fifo : Fifo) → g .slots ≤ slot + 1
       → (1 ≤ passes) ⊎ (passes < 1) → Leads (none-at n) (noIdHere slot passes site fifo)
   unfolding noIdHere noIdOf
   index-look n slot passes fifo l (inl m) =
@@ -241,7 +239,7 @@ module _ (img : List ℕ) (g : Geometry) (disk : diskIn img ≡ Present g) (orde
 
     ends-said : (calls : List Call) (c : Controller) → Quiet c → c .phase ≡ Starting order
         → driveAt (order .drive) (c .drives) .head ≡ cylinder → Spins (order .drive) calls c
-        → Alone (order .drive) img calls c → boundOf g ≤ tickCount calls → command.Ends Said calls c
+        → Alone (order .drive) img calls c → boundOf g ≤ tickCount calls → EndsWith Said calls c
     ends-said calls c q p h spins alone more =
         still-ends order low cylinder img (λ e. Unit {0}) Way Said on-phase step-of over-so calls c q h (starts p) spins
         alone (all-ticks _ (λ x. tt) calls c) (ends-in-time-quiet c q order p img g disk calls alone more)

@@ -66,8 +66,7 @@ use Rattle.demands.specs.Quiet.{Quiet}
 use Rattle.demands.specs.ReadSucceeds.{AsTaken, TellsAt, AllGood, ReadSucceeds, ReadSucceedsInTime, UntoldRead}
 use Rattle.demands.specs.ReadSucceeds.{ReadReachesEot}
 use Rattle.demands.specs.Succeeds.{Fill, EndedAt, LastOne}
-use Rattle.demands.specs.Work.{Real, atWork, imageBy, Handed, Alone, Anyhow}
-use Rattle.demands.specs.Work as command
+use Rattle.demands.specs.Work.{Real, atWork, imageBy, Handed, Alone, Anyhow, EndsWith}
 use Rattle.demands.proofs.AddressLaws.{onward-turn, onward-stay}
 use Rattle.demands.proofs.CallLaws.{tick-starts, tick-works, call-rule, calm-keeps, taken-rule}
 use Rattle.demands.proofs.CallRules.{NoTick, MayTake, FifoRule, same, took, gave, TakenRule, none-taken}
@@ -624,9 +623,9 @@ module _ (g : Geometry) (cylinder : ℕ) (order : Order) (transfer : Transfer) (
 
   -- if it ends, it ends so
   ends-so : (calls : List Call) (c : Controller) (t : Taken) → Follows c t → Spins drive calls c
-      → Alone drive img calls c → InTime calls c → AsTaken Told calls c t → command.Ends Anyhow calls c
-      → command.Ends Said calls c
-  unfolding command.Ends Spins Alone AtTicks AsTaken
+      → Alone drive img calls c → InTime calls c → AsTaken Told calls c t → EndsWith Anyhow calls c
+      → EndsWith Said calls c
+  unfolding EndsWith Spins Alone AtTicks AsTaken
   ends-so [] c t f s l i r (a, u) = (a, over-so c t f a)
   ends-so (call ∷ calls) c t f s l i r (inl (a, u)) = inl (a, over-so c t f a)
   ends-so (call ∷ calls) c t f s l i r (inr (w, rest)) =
@@ -639,7 +638,7 @@ module _ (g : Geometry) (cylinder : ℕ) (order : Order) (transfer : Transfer) (
 
   ends-said : (calls : List Call) (c : Controller) → Quiet c → c .phase ≡ Starting order
       → driveAt drive (c .drives) .head ≡ cylinder → Told untaken → Spins drive calls c → Alone drive img calls c
-      → InTime calls c → AsTaken Told calls c untaken → boundOf g ≤ tickCount calls → command.Ends Said calls c
+      → InTime calls c → AsTaken Told calls c untaken → boundOf g ≤ tickCount calls → EndsWith Said calls c
   ends-said calls c q p h none spins alone timely tells more =
       ends-so calls c untaken (record { quiet = q; head-is = h; told = none; way = starts p refl }) spins alone timely
       tells (ends-in-time-quiet c q order p img g disk calls alone more)

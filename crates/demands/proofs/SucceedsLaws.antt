@@ -85,8 +85,7 @@ use Rattle.demands.specs.Succeeds.{
   Untold,
   WriteReachesEot,
 }
-use Rattle.demands.specs.Work.{atWork, imageBy, Handed, Alone, Anyhow, Real}
-use Rattle.demands.specs.Work as command
+use Rattle.demands.specs.Work.{atWork, imageBy, Handed, Alone, Anyhow, Real, EndsWith}
 use Rattle.demands.proofs.CallLaws.{tick-starts, tick-works, call-rule, calm-keeps}
 use Rattle.demands.proofs.CallRules.{NoTick, same, took, gave, CallRule, cut-off, goes-on}
 use Rattle.demands.proofs.SplitLaws.{tick-or-not, image-same}
@@ -720,9 +719,9 @@ module _ (g : Geometry) (cylinder : ℕ) (order : Order) (transfer : Transfer) (
 
   -- if it ends, it ends so
   ends-well : (calls : List Call) (c : Controller) (img : List ℕ) (h : History) → Course c img h → Spins drive calls c
-      → Alone drive img calls c → InTime calls c → Noting (Keeping plan) calls c h → command.Ends Anyhow calls c
-      → command.Ends Closed calls c
-  unfolding command.Ends Spins Alone AtTicks Noting
+      → Alone drive img calls c → InTime calls c → Noting (Keeping plan) calls c h → EndsWith Anyhow calls c
+      → EndsWith Closed calls c
+  unfolding EndsWith Spins Alone AtTicks Noting
   ends-well [] c img h k s l n t (a, u) = (a, k .on .1 a)
   ends-well (call ∷ calls) c img h k s l n t (inl (a, u)) = inl (a, k .on .1 a)
   ends-well (call ∷ calls) c img h k s l n t (inr (w, rest)) =
@@ -743,7 +742,7 @@ module _ (c : Controller) (q : Quiet c) (order : Order) (transfer : Transfer) (i
   ends-by-plan : (plan : Plan g transfer (record { id = id; side = order .side }) last) → Few plan noHistory
       → Keeping plan noHistory → (calls : List Call) → Spins (order .drive) calls c → Alone (order .drive) old calls c
       → InTime calls c → Noting (Keeping plan) calls c noHistory → boundOf g ≤ tickCount calls
-      → command.Ends (EndedAt (tcOf plan) order transfer (record { id = id; side = order .side }) last) calls c
+      → EndsWith (EndedAt (tcOf plan) order transfer (record { id = id; side = order .side }) last) calls c
   ends-by-plan plan few keeping calls spins alone timely noting more =
       let (hd, hs, job) = rw (w .accepted) at (q .proper) in
       let (hr, he) = rw (w .moves) at job in

@@ -27,7 +27,7 @@ use Rattle.demands.specs.EndsInTime.{boundOf}
 use Rattle.demands.specs.History.{some-of, noHistory, historyOf}
 use Rattle.demands.specs.InTime.{InTime}
 use Rattle.demands.specs.PowerCut.{Writes, headOf}
-use Rattle.demands.specs.Work.{atWork, Its, Alone, imageLeft, Ends}
+use Rattle.demands.specs.Work.{atWork, Its, Alone, imageLeft, EndsWith}
 
 -- the read: of that kind, of the sector whose mark stands at that place of the old image
 pub record ReadsIt (e : Controller) (order : Order) (transfer : Transfer) (id : Id) (g : Geometry) (written : Transfer)
@@ -64,7 +64,7 @@ DataError From =
     → ReadsIt e order′ transfer′ id′ g transfer old at
     → (calls′ : List Call) → Spins (order′ .drive) calls′ e
     → Alone (order′ .drive) (imageLeft (order .drive) old calls c) calls′ e → boundOf g ≤ tickCount calls′
-    → Ends DataErrorOrLate calls′ e
+    → EndsWith DataErrorOrLate calls′ e
 
 -- the read: of the sector whose mark stands at that place of the old image, of either kind
 pub record ReadsThere (e : Controller) (order : Order) (transfer : Transfer) (id : Id) (g : Geometry) (old : List ℕ)
@@ -100,4 +100,4 @@ DataErrorInTime From =
     → (calls′ : List Call) → Spins (order′ .drive) calls′ e
     → Alone (order′ .drive) (imageLeft (order .drive) old calls c) calls′ e → boundOf g ≤ tickCount calls′
     → InTime calls′ e
-    → Ends (DataErrorAt order′ id′ transfer′ transfer) calls′ e
+    → EndsWith (DataErrorAt order′ id′ transfer′ transfer) calls′ e

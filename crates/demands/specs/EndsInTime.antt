@@ -26,7 +26,7 @@ use Rattle.reached.specs.Moves.{tickCount, OnTime}
 use Rattle.fdc.specs.Record.{driveAt}
 use Rattle.reached.specs.Runs.{Call, writes, ticks, after}
 use Rattle.fdc.specs.Ticks.{seenOf}
-use Rattle.demands.specs.Work.{Real, Alone, Ends, Anyhow}
+use Rattle.demands.specs.Work.{Real, Alone, EndsWith, Anyhow}
 
 -- 01 End: 2 x (S + 1) x (2S + B + 70)
 unfoldable pub boundOf : Geometry → ℕ
@@ -38,7 +38,7 @@ EndsInTime From =
     (c : Controller) → From c → (order : Order) → c .phase ≡ Starting order
     → (img : List ℕ) (g : Geometry) → diskIn img ≡ Present g
     → (calls : List Call) → Alone (order .drive) img calls c → boundOf g ≤ tickCount calls
-    → Ends Anyhow calls c
+    → EndsWith Anyhow calls c
 
 -- 01 End: on an empty drive in one, whatever image a tick is handed: its result is there after the first tick
 abbrev pub EndsInOne : (Controller → Type 0) → Type 0

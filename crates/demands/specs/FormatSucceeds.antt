@@ -24,7 +24,7 @@ use Rattle.demands.specs.FormatScript.{Formats, slotDraws, Allowed}
 use Rattle.demands.specs.History.{History, noHistory, historyBy}
 use Rattle.demands.specs.InTime.{AtTick, InTime}
 use Rattle.demands.specs.PowerCut.{headOf}
-use Rattle.demands.specs.Work.{atWork, Its, Alone, Ends}
+use Rattle.demands.specs.Work.{atWork, Its, Alone, EndsWith}
 
 -- each tick at work finds the request off, or n bytes handed over: the request knows no count (D-114), the host does
 unfoldable pub ServedUpTo : ℕ → List Call → Controller → History → Type 0
@@ -50,7 +50,7 @@ FormatSucceeds From =
     → (old : List ℕ) (g : Geometry) → diskIn old ≡ Present g → Allowed g (headOf order c) (order .side) plan
     → (calls : List Call) → Spins (order .drive) calls c → Alone (order .drive) old calls c → InTime calls c
     → boundOf g ≤ tickCount calls
-    → Ends (Formatted order plan (headOf order c)) calls c
+    → EndsWith (Formatted order plan (headOf order c)) calls c
 
 -- a host that serves each request before the next tick, until it has handed over four bytes for each slot, is in time
 abbrev pub FormatServed : (Controller → Type 0) → Type 0

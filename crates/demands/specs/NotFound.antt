@@ -26,7 +26,7 @@ use Rattle.demands.specs.DataError.{Spins}
 use Rattle.demands.specs.EndsInTime.{boundOf}
 use Rattle.demands.specs.InTime.{Transfers}
 use Rattle.demands.specs.PowerCut.{Stands, headOf}
-use Rattle.demands.specs.Work.{Alone, Ends}
+use Rattle.demands.specs.Work.{Alone, EndsWith}
 
 -- one of the first n slots is so
 abbrev pub some : (ℕ → Bool) → ℕ → Bool
@@ -72,6 +72,6 @@ NotFound From =
     → Missing g img (headOf order c) (order .side) transfer id
     → (calls : List Call) → Spins (order .drive) calls c → Alone (order .drive) img calls c
     → boundOf g ≤ tickCount calls
-    → Ends (Misses order id (some (hasId g img (headOf order c) (order .side)) (g .slots))
+    → EndsWith (Misses order id (some (hasId g img (headOf order c) (order .side)) (g .slots))
     (some (otherBelow g img (headOf order c) (order .side) (id .c)) (g .slots))
     (some (otherFf g img (headOf order c) (order .side) (id .c)) (g .slots))) calls c

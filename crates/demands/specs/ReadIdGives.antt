@@ -23,7 +23,7 @@ use Rattle.demands.specs.Acknowledged.{resultByte, resultId}
 use Rattle.demands.specs.DataError.{Spins}
 use Rattle.demands.specs.EndsInTime.{boundOf}
 use Rattle.demands.specs.PowerCut.{Counts, headOf}
-use Rattle.demands.specs.Work.{Alone, Ends}
+use Rattle.demands.specs.Work.{Alone, EndsWith}
 
 -- a Read ID was accepted: any drive and side
 pub record Identifies (c : Controller) (order : Order) : Type 0 where
@@ -37,7 +37,7 @@ pub record FirstId (g : Geometry) (img : List ℕ) (cylinder side k : ℕ) : Typ
   pub none-before : (j : ℕ) → j < k → Counts (markIn g img cylinder side j) → ⊥
 
 -- the track is there, and has no ID
-pub record NoId (g : Geometry) (img : List ℕ) (cylinder side : ℕ) : Type 0 where
+pub record NoIdThere (g : Geometry) (img : List ℕ) (cylinder side : ℕ) : Type 0 where
   pub on-disk : cylinder < g .cylinders
   pub on-cylinder : side < g .heads
   pub none : (k : ℕ) → Has g cylinder side k → Counts (markIn g img cylinder side k) → ⊥
@@ -58,12 +58,12 @@ ReadIdGives From =
     → (k : ℕ) → FirstId g img (headOf order c) (order .side) k
     → (calls : List Call) → Spins (order .drive) calls c → Alone (order .drive) img calls c
     → boundOf g ≤ tickCount calls
-    → Ends (Gives order true 0x00 (idAt img (offsetOf g (headOf order c) (order .side) k))) calls c
+    → EndsWith (Gives order true 0x00 (idAt img (offsetOf g (headOf order c) (order .side) k))) calls c
 
 abbrev pub ReadIdNone : (Controller → Type 0) → Type 0
 ReadIdNone From =
     (c : Controller) → From c → (order : Order) → Identifies c order
-    → (img : List ℕ) (g : Geometry) → diskIn img ≡ Present g → NoId g img (headOf order c) (order .side)
+    → (img : List ℕ) (g : Geometry) → diskIn img ≡ Present g → NoIdThere g img (headOf order c) (order .side)
     → (calls : List Call) → Spins (order .drive) calls c → Alone (order .drive) img calls c
     → boundOf g ≤ tickCount calls
-    → Ends (Gives order false 0x01 (record { c = 0; h = 0; r = 0; n = 0 })) calls c
+    → EndsWith (Gives order false 0x01 (record { c = 0; h = 0; r = 0; n = 0 })) calls c

@@ -25,7 +25,7 @@ use Rattle.demands.specs.HandedOver.{Reads, Taken, untaken, takenBy, IsG
 use Rattle.demands.specs.InTime.{InTime, Prompt}
 use Rattle.demands.specs.PowerCut.{Aim, aimNo, Followed, headOf}
 use Rattle.demands.specs.Succeeds.{Fill, Success, PastEot, LastOne}
-use Rattle.demands.specs.Work.{atWork, Alone, Ends}
+use Rattle.demands.specs.Work.{atWork, Alone, EndsWith}
 
 -- what the host took so far is so, after each call of the command at work
 unfoldable pub AsTaken : (Taken → Type 0) → List Call → Controller → Taken → Type 0
@@ -56,7 +56,7 @@ ReadSucceedsIf Served From =
     → AllGood g img (headOf order c) transfer (record { id = id; side = order .side }) last
     → (calls : List Call) → Spins (order .drive) calls c → Alone (order .drive) img calls c → Served calls c
     → ReadTells bytes calls c untaken → boundOf g ≤ tickCount calls
-    → Ends (Success order transfer (record { id = id; side = order .side }) last) calls c
+    → EndsWith (Success order transfer (record { id = id; side = order .side }) last) calls c
 
 -- each request is served before the next tick
 abbrev pub ReadSucceeds : (Controller → Type 0) → Type 0
@@ -79,7 +79,7 @@ ReadReachesEot From =
     → LastOne transfer (aimNo transfer (record { id = id; side = order .side }) last)
     → (calls : List Call) → Spins (order .drive) calls c → Alone (order .drive) img calls c → InTime calls c
     → AsTaken UntoldRead calls c untaken → boundOf g ≤ tickCount calls
-    → Ends (PastEot order transfer (record { id = id; side = order .side }) last) calls c
+    → EndsWith (PastEot order transfer (record { id = id; side = order .side }) last) calls c
 
 -- Such a host there is, in DMA mode with the gate bit on (01 Registers DRQ), for as many ticks as one likes: it takes
 -- what is asked for before each tick, and hands each the same images.

@@ -24,7 +24,7 @@ use Rattle.demands.specs.EndsInTime.{boundOf}
 use Rattle.demands.specs.History.{History, noHistory, historyBy}
 use Rattle.demands.specs.InTime.{InTime, Prompt}
 use Rattle.demands.specs.PowerCut.{Writes, Aim, aimNo, Followed, Stands, headOf, passing}
-use Rattle.demands.specs.Work.{atWork, Alone, Ends}
+use Rattle.demands.specs.Work.{atWork, Alone, EndsWith}
 
 -- a disk with that header, not protected
 pub record Writable (g : Geometry) (img : List ℕ) : Type 0 where
@@ -83,7 +83,7 @@ WriteSucceedsIf Served From =
     → AllThere g old (headOf order c) transfer (record { id = id; side = order .side }) last
     → (calls : List Call) → Spins (order .drive) calls c → Alone (order .drive) old calls c → Served calls c
     → WriteTells bytes calls c noHistory → boundOf g ≤ tickCount calls
-    → Ends (Success order transfer (record { id = id; side = order .side }) last) calls c
+    → EndsWith (Success order transfer (record { id = id; side = order .side }) last) calls c
 
 -- each request is served before the next tick
 abbrev pub WriteSucceeds : (Controller → Type 0) → Type 0
@@ -114,4 +114,4 @@ WriteReachesEot From =
     → LastOne transfer (aimNo transfer (record { id = id; side = order .side }) last)
     → (calls : List Call) → Spins (order .drive) calls c → Alone (order .drive) old calls c → InTime calls c
     → Noting Untold calls c noHistory → boundOf g ≤ tickCount calls
-    → Ends (PastEot order transfer (record { id = id; side = order .side }) last) calls c
+    → EndsWith (PastEot order transfer (record { id = id; side = order .side }) last) calls c

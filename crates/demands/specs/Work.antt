@@ -83,10 +83,10 @@ Alone drive img (call ∷ calls) c =
     atWork (c .phase) ≡ true → Handed drive img call × Alone drive (imageBy drive img call c) calls (after call c)
 
 -- the command ends by the end of the list at the latest, and this holds of the record that it ends with
-unfoldable pub Ends : (Controller → Type 0) → List Call → Controller → Type 0
-Ends P [] c = (atWork (c .phase) ≡ false) × P c
-Ends P (call ∷ calls) c =
-    ((atWork (c .phase) ≡ false) × P c) ⊎ ((atWork (c .phase) ≡ true) × Ends P calls (after call c))
+unfoldable pub EndsWith : (Controller → Type 0) → List Call → Controller → Type 0
+EndsWith P [] c = (atWork (c .phase) ≡ false) × P c
+EndsWith P (call ∷ calls) c =
+    ((atWork (c .phase) ≡ false) × P c) ⊎ ((atWork (c .phase) ≡ true) × EndsWith P calls (after call c))
 
 abbrev pub Anyhow : Controller → Type 0
 Anyhow c = Unit {0}

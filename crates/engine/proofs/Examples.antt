@@ -1,4 +1,4 @@
--- The engine-examples of specs/EngineExamples, each by computing.
+-- The examples of specs/Examples, each by computing.
 -- Assumes nothing.
 use mathlib.Core.Path.{refl}
 use Rattle.engine.specs.Examples.{EngineExamples}

@@ -1,5 +1,5 @@
 -- 01 Example 9, 01 Example 10, and ends of a search, on the image crate's small disk of one track with two sectors of
--- 256 bytes. The proofs are in proofs/EngineExamples.antt.
+-- 256 bytes. The proofs are in proofs/Examples.antt.
 -- Assumes nothing.
 use Prim.Native.Nat.{ℕ, zero, suc}
 use mathlib.Core.Bool.{Bool, true, false}

@@ -34,7 +34,7 @@ use Rattle.capi.specs.Calls.{writtenBack, cycledOf, wordBack, bytesFrom, cycleF
 use Rattle.capi.specs.Calls.{firstFrom, secondFrom}
 use Rattle.capi.specs.Word.{noRecord}
 use Rattle.firmware.specs.Calls.{World, BelCall, power-on, read-port, write-port, dma-read, dma-write, tick}
-use Rattle.firmware.specs.Calls.{note-change, ticks, lends, wordTo, bytesAfter, firstAfter, secondAfter}
+use Rattle.firmware.specs.Calls.{note-change, tick-many, lends, wordTo, bytesAfter, firstAfter, secondAfter}
 use Rattle.firmware.specs.Calls.{worldAfter, worldLeft}
 use Rattle.firmware.specs.Lists.{NeedsRecord, AnyBytes}
 use Rattle.firmware.proofs.ListLaws.{holds-stored}
@@ -122,7 +122,7 @@ no-record w h (dma-read tc) n = (rw h, rw h)
 no-record w h (dma-write byte tc) n = (rw h, rw h)
 no-record w h tick n = (rw h, rw h)
 no-record w h (note-change drive) n = (rw h, rw h)
-no-record w h (ticks m) n = (rw h, rw h)
+no-record w h (tick-many m) n = (rw h, rw h)
 no-record w h (lends a b) n = absurd n
 
 pub too-few : (w : World) → length (w .bytes) < recordSize → (head0 head1 : ℕ)
@@ -175,7 +175,7 @@ behind-call (dma-read tc) w = behind-cycled _ (w .bytes)
 behind-call (dma-write byte tc) w = behind-cycled _ (w .bytes)
 behind-call tick w = behind-written _ (w .bytes)
 behind-call (note-change drive) w = behind-written _ (w .bytes)
-behind-call (ticks n) w = behind-written _ (w .bytes)
+behind-call (tick-many n) w = behind-written _ (w .bytes)
 behind-call (lends a b) w = refl
 
 behind-list : (calls : List BelCall) (w : World) → Behind (w .bytes) (worldLeft calls w .bytes)

@@ -1,4 +1,4 @@
--- A write by the library's calls alone (specs/FirmwareExamples): by computation on the box that the bytes show.
+-- A write by the library's calls alone (specs/Examples): by computation on the box that the bytes show.
 -- Assumes nothing.
 use Prim.Native.Nat.{ℕ}
 use native.Mathlib.Omega.{arith}
@@ -14,7 +14,7 @@ use Rattle.demands.specs.PowerCut.{Writes}
 use Rattle.demands.specs.Work.{Real, Its, imageLeft}
 use Rattle.reached.proofs.Open.{callsOpen}
 use Rattle.capi.specs.Word.{wordIn}
-use Rattle.firmware.specs.Calls.{World, BelCall, power-on, dma-write, ticks, worldLeft}
+use Rattle.firmware.specs.Calls.{World, BelCall, power-on, dma-write, tick-many, worldLeft}
 use Rattle.firmware.specs.Calls.{firstAfter, secondAfter, worldAfter}
 use Rattle.firmware.specs.Examples.{blank, asked, begun, writer, written, sectorOne, ordered, served, FirmwareExamples}
 use Rattle.firmware.specs.FromFirmware.{Stays, Accepted, storesOn}
@@ -64,8 +64,8 @@ firmware-examples =
       accepted = accepts;
       its = (refl, (refl, (refl, (refl, (refl, tt)))));
       stays = (tt, (tt, tt));
-      first-word = follows asked .word (ticks 9);
-      byte-word = follows (asked ++ (ticks 9 ∷ [])) .word (dma-write 0xA5 0);
-      last-word = follows (asked ++ served) .word (ticks 100);
+      first-word = follows asked .word (tick-many 9);
+      byte-word = follows (asked ++ (tick-many 9 ∷ [])) .word (dma-write 0xA5 0);
+      last-word = follows (asked ++ served) .word (tick-many 100);
       stores = stores-same 100 _ _ (follows (asked ++ served) .shows);
     }

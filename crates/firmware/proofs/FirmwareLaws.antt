@@ -21,7 +21,7 @@ use Rattle.fdc.specs.Calls.{powerOn}
 use Rattle.fdc.specs.Record.{validOf}
 use Rattle.fdc.specs.Registers.{intOf, drqOf}
 use Rattle.reached.specs.Runs.{Call, powers, reads, writes, takes, gives, notes, answerTo, after, runCalls}
-use Rattle.reached.specs.Runs.{ticks as one-tick}
+use Rattle.reached.specs.Runs.{ticks}
 use Rattle.fdc.specs.Ticks.{ruledOf, imageAfter}
 use Rattle.demands.specs.Work.{AllOfBytes, Real, Its, imageBy, imageLeft, Handed, Alone}
 use Rattle.demands.proofs.PowerCutLaws.{power-cut}
@@ -29,7 +29,7 @@ use Rattle.pack.specs.Back.{HoldsRecord, Typed}
 use Rattle.pack.specs.Bytes.{recordSize, recordIn}
 use Rattle.many_ticks.specs.Run.{Ran, changed, manyTicks}
 use Rattle.firmware.specs.Calls.{World, BelCall, power-on, read-port, write-port, dma-read, dma-write, tick}
-use Rattle.firmware.specs.Calls.{note-change, ticks, lends, worldAfter, worldLeft}
+use Rattle.firmware.specs.Calls.{note-change, tick-many, lends, worldAfter, worldLeft}
 use Rattle.firmware.specs.Made.{Box, tickCalls, ticksMade, callsIn, boxBy, boxAfter, boxLeft, callsMade}
 use Rattle.firmware.specs.Inside.{StoreMade, putAll, storesIn, ImagesOf}
 use Rattle.firmware.specs.Lists.{ShowsBox}
@@ -51,13 +51,13 @@ from-bytes : (n : ℕ) (a b : List ℕ) (c : Controller) → AllOfBytes (tickCal
 unfolding tickCalls
 from-bytes zero a b c = tt
 from-bytes (suc n) a b c =
-    go (changed (intOf c) (drqOf c) (answerTo (one-tick a b) c .int) (answerTo (one-tick a b) c .drq))
-    (from-bytes n (imageAfter 0 a b c a) (imageAfter 1 a b c b) (after (one-tick a b) c))
+    go (changed (intOf c) (drqOf c) (answerTo (ticks a b) c .int) (answerTo (ticks a b) c .drq))
+    (from-bytes n (imageAfter 0 a b c a) (imageAfter 1 a b c b) (after (ticks a b) c))
   where
     rest : List Call
-    rest = tickCalls n (imageAfter 0 a b c a) (imageAfter 1 a b c b) (after (one-tick a b) c)
+    rest = tickCalls n (imageAfter 0 a b c a) (imageAfter 1 a b c b) (after (ticks a b) c)
 
-    go : (t : Bool) → AllOfBytes rest → AllOfBytes (one-tick a b ∷ cond t [] rest)
+    go : (t : Bool) → AllOfBytes rest → AllOfBytes (ticks a b ∷ cond t [] rest)
     go true later = (tt, tt)
     go false later = (tt, later)
 
@@ -78,7 +78,7 @@ in-bytes (dma-read tc) x o = (tt, tt)
 in-bytes (dma-write byte tc) x o = (o .0 .0, tt)
 in-bytes tick x o = (tt, tt)
 in-bytes (note-change drive) x o = (o .0, tt)
-in-bytes (ticks n) x o = made-bytes n (x .first) (x .second) (x .controller)
+in-bytes (tick-many n) x o = made-bytes n (x .first) (x .second) (x .controller)
 in-bytes (lends a b) x o = tt
 
 all-bytes : (calls : List BelCall) (x : Box) → AllBelBytes calls → AllOfBytes (callsMade calls x)
@@ -119,7 +119,7 @@ by-pick drive a b (reads offset) c = refl
 by-pick drive a b (writes offset byte) c = refl
 by-pick drive a b (takes tc) c = refl
 by-pick drive a b (gives byte tc) c = refl
-by-pick drive a b (one-tick p q) c = tick-pick drive p q a b c
+by-pick drive a b (ticks p q) c = tick-pick drive p q a b c
 by-pick drive a b (notes drive′) c = refl
 
 -- each tick is handed the images as they are
@@ -129,7 +129,7 @@ FedBy a b (reads offset) = Unit {0}
 FedBy a b (writes offset byte) = Unit {0}
 FedBy a b (takes tc) = Unit {0}
 FedBy a b (gives byte tc) = Unit {0}
-FedBy a b (one-tick p q) = (p ≡ a) × (q ≡ b)
+FedBy a b (ticks p q) = (p ≡ a) × (q ≡ b)
 FedBy a b (notes drive) = Unit {0}
 
 unfoldable Fed : List Call → List ℕ → List ℕ → Controller → Type 0
@@ -140,8 +140,8 @@ fed-from : (n : ℕ) (a b : List ℕ) (c : Controller) → Fed (tickCalls n a b 
 unfolding tickCalls Fed
 fed-from zero a b c = tt
 fed-from (suc n) a b c =
-    go (changed (intOf c) (drqOf c) (answerTo (one-tick a b) c .int) (answerTo (one-tick a b) c .drq))
-    (fed-from n first second (after (one-tick a b) c))
+    go (changed (intOf c) (drqOf c) (answerTo (ticks a b) c .int) (answerTo (ticks a b) c .drq))
+    (fed-from n first second (after (ticks a b) c))
   where
     first : List ℕ
     first = imageAfter 0 a b c a
@@ -150,9 +150,9 @@ fed-from (suc n) a b c =
     second = imageAfter 1 a b c b
 
     rest : List Call
-    rest = tickCalls n first second (after (one-tick a b) c)
+    rest = tickCalls n first second (after (ticks a b) c)
 
-    go : (t : Bool) → Fed rest first second (after (one-tick a b) c) → Fed (one-tick a b ∷ cond t [] rest) a b c
+    go : (t : Bool) → Fed rest first second (after (ticks a b) c) → Fed (ticks a b ∷ cond t [] rest) a b c
     go true later = ((refl, refl), tt)
     go false later = ((refl, refl), later)
 
@@ -173,7 +173,7 @@ fed-in (dma-read tc) x = (tt, tt)
 fed-in (dma-write byte tc) x = (tt, tt)
 fed-in tick x = ((refl, refl), tt)
 fed-in (note-change drive) x = (tt, tt)
-fed-in (ticks n) x = fed-made n (x .first) (x .second) (x .controller)
+fed-in (tick-many n) x = fed-made n (x .first) (x .second) (x .controller)
 fed-in (lends a b) x = tt
 
 handed : (drive : ℕ) (a b : List ℕ) (call : Call) → FedBy a b call → Handed drive (pickOf drive a b) call
@@ -182,7 +182,7 @@ handed drive a b (reads offset) f = tt
 handed drive a b (writes offset byte) f = tt
 handed drive a b (takes tc) f = tt
 handed drive a b (gives byte tc) f = tt
-handed drive a b (one-tick p q) f = rw (f .0, f .1)
+handed drive a b (ticks p q) f = rw (f .0, f .1)
 handed drive a b (notes drive′) f = tt
 
 -- what some calls leave of the picked image, and that nobody else changed it
@@ -222,7 +222,7 @@ lent-pick drive (dma-read tc) x s = refl
 lent-pick drive (dma-write byte tc) x s = refl
 lent-pick drive tick x s = refl
 lent-pick drive (note-change drive′) x s = refl
-lent-pick drive (ticks n) x s = refl
+lent-pick drive (tick-many n) x s = refl
 lent-pick drive (lends a b) x s = s
 
 -- over the library's calls
@@ -290,13 +290,13 @@ world-more [] more w = refl
 world-more (call ∷ calls) more w = world-more calls more (worldAfter call w)
 
 stays-more : (drive n : ℕ) (calls : List BelCall) (x : Box) → Stays drive calls x
-    → Stays drive (calls ++ (ticks n ∷ [])) x
+    → Stays drive (calls ++ (tick-many n ∷ [])) x
 unfolding Stays
 stays-more drive n [] x s = (tt, tt)
 stays-more drive n (call ∷ calls) x s = (s .0, stays-more drive n calls (boxAfter call x) (s .1))
 
 box-more : (calls : List BelCall) (n : ℕ) (x : Box)
-    → boxLeft (calls ++ (ticks n ∷ [])) x
+    → boxLeft (calls ++ (tick-many n ∷ [])) x
     ≡ boxBy (ticksMade n (boxLeft calls x .first) (boxLeft calls x .second) (boxLeft calls x .controller))
     (boxLeft calls x)
 unfolding boxLeft callsIn
@@ -304,16 +304,16 @@ box-more [] n x = refl
 box-more (call ∷ calls) n x = box-more calls n (boxAfter call x)
 
 -- the calls of a list that ends with many ticks
-one-made : (n : ℕ) (y : Box) → callsMade (ticks n ∷ []) y ≡ ticksMade n (y .first) (y .second) (y .controller)
+one-made : (n : ℕ) (y : Box) → callsMade (tick-many n ∷ []) y ≡ ticksMade n (y .first) (y .second) (y .controller)
 unfolding callsMade callsIn
 one-made n y = append-nil (ticksMade n (y .first) (y .second) (y .controller))
 
 ends-made : (calls : List BelCall) (n : ℕ) (x : Box)
-    → callsMade (calls ++ (ticks n ∷ [])) x
+    → callsMade (calls ++ (tick-many n ∷ [])) x
     ≡ callsMade calls x
     ++ ticksMade n (boxLeft calls x .first) (boxLeft calls x .second) (boxLeft calls x .controller)
 ends-made calls n x =
-    calls-more calls (ticks n ∷ []) x ∙ ap (λ (l : List Call). callsMade calls x ++ l) (one-made n (boxLeft calls x))
+    calls-more calls (tick-many n ∷ []) x ∙ ap (λ (l : List Call). callsMade calls x ++ l) (one-made n (boxLeft calls x))
 
 -- fewer calls of a command
 its-short : (calls more : List Call) (j : ℕ) (c : Controller) → Its (calls ++ more) c → Its (calls ++ take j more) c
@@ -354,21 +354,21 @@ module _ (w : World) (c : Controller) (order : Order) (transfer : Transfer) (id 
     -- those of a run of j, in the firmware's memory
     images : (j : ℕ)
         → ImagesOf j (y .first) (y .second) (y .controller) (putAll 0 stores (y .first)) (putAll 1 stores (y .second))
-        → worldImage (order .drive) (worldLeft (calls ++ (ticks j ∷ [])) w) ≡ worldImage (order .drive) (inside n i v)
+        → worldImage (order .drive) (worldLeft (calls ++ (tick-many j ∷ [])) w) ≡ worldImage (order .drive) (inside n i v)
     images j at =
-        let f = follows (calls ++ (ticks j ∷ [])) in
+        let f = follows (calls ++ (tick-many j ∷ [])) in
         let s = follows calls in
         let box = box-more calls j (boxOf c w) in
         let ran = ticks-are j (y .first) (y .second) (y .controller) in
-        let first : worldLeft (calls ++ (ticks j ∷ [])) w .first ≡ putAll 0 stores (y .first) =
+        let first : worldLeft (calls ++ (tick-many j ∷ [])) w .first ≡ putAll 0 stores (y .first) =
         f .first ∙ ap (λ (z : Box). z .first) box ∙ sym (ap (λ (r : Ran). r .first) ran) ∙ sym (at .first-is) in
-        let second : worldLeft (calls ++ (ticks j ∷ [])) w .second ≡ putAll 1 stores (y .second) =
+        let second : worldLeft (calls ++ (tick-many j ∷ [])) w .second ≡ putAll 1 stores (y .second) =
         f .second ∙ ap (λ (z : Box). z .second) box ∙ sym (ap (λ (r : Ran). r .second) ran) ∙ sym (at .second-is) in
         rw (first, second, s .first, s .second, s .record-is .back)
 
-    cut-in : Its (callsMade (calls ++ (ticks n ∷ [])) (boxOf c w)) c → Stays (order .drive) calls (boxOf c w)
+    cut-in : Its (callsMade (calls ++ (tick-many n ∷ [])) (boxOf c w)) c → Stays (order .drive) calls (boxOf c w)
         → (j : ℕ) × ((j ≤ n)
-        × LeftAfter w c order transfer id g (calls ++ (ticks j ∷ [])) (worldImage (order .drive) (inside n i v)))
+        × LeftAfter w c order transfer id g (calls ++ (tick-many j ∷ [])) (worldImage (order .drive) (inside n i v)))
     cut-in its stays =
         let (j, at) = stores-in-order n (y .first) (y .second) (y .controller) .each i in
         let made : manyTicks n (y .first) (y .second) (y .controller) .made
@@ -376,14 +376,14 @@ module _ (w : World) (c : Controller) (order : Order) (transfer : Transfer) (id 
         ap (λ (r : Ran). r .made) (ticks-are n (y .first) (y .second) (y .controller)) in
         let most = made-most n (y .first) (y .second) (y .controller) in
         let short = made-short n j (y .first) (y .second) (y .controller) (omega (arith, at .0, made)) in
-        let its′ : Its (callsMade (calls ++ (ticks j ∷ [])) (boxOf c w)) c =
+        let its′ : Its (callsMade (calls ++ (tick-many j ∷ [])) (boxOf c w)) c =
         rw (ends-made calls j (boxOf c w), ← short)
         (its-short (callsMade calls (boxOf c w)) _ j c (rw (ends-made calls n (boxOf c w)) at its)) in (
           j,
           (
             omega (arith, at .0, made, most),
-            subst (LeftAfter w c order transfer id g (calls ++ (ticks j ∷ []))) (images j (at .1))
-                (cut (calls ++ (ticks j ∷ [])) its′ (stays-more (order .drive) j calls (boxOf c w) stays)),
+            subst (LeftAfter w c order transfer id g (calls ++ (tick-many j ∷ []))) (images j (at .1))
+                (cut (calls ++ (tick-many j ∷ [])) its′ (stays-more (order .drive) j calls (boxOf c w) stays)),
           ),
         )
 

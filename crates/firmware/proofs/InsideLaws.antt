@@ -19,7 +19,7 @@ use Rattle.fdc.specs.Answer.{answerOf}
 use Rattle.fdc.specs.Record.{validOf}
 use Rattle.fdc.specs.Registers.{intOf, drqOf}
 use Rattle.reached.specs.Runs.{Call, powers, reads, writes, takes, gives, notes, answerTo, after}
-use Rattle.reached.specs.Runs.{ticks as one-tick}
+use Rattle.reached.specs.Runs.{ticks}
 use Rattle.fdc.specs.Ticks.{tickOf, ruledOf, imageAfter}
 use Rattle.demands.specs.Work.{imageBy, imageLeft}
 use Rattle.many_ticks.specs.Run.{Ran, ranWith, ranOn, changed, changedIn, ranFor, noTickMade, refusedOf, manyTicks}
@@ -145,11 +145,11 @@ same-both : (t : Bool) (img : List ℕ) → cond t img img ≡ img
 same-both true img = refl
 same-both false img = refl
 
-tick-store : (a b : List ℕ) (c : Controller) → OneStore (one-tick a b) c
+tick-store : (a b : List ℕ) (c : Controller) → OneStore (ticks a b) c
 unfolding imageAfter
 tick-store a b c = go (ruledOf a b c .effect) refl
   where
-    go : (e : Effect) → ruledOf a b c .effect ≡ e → OneStore (one-tick a b) c
+    go : (e : Effect) → ruledOf a b c .effect ≡ e → OneStore (ticks a b) c
     go Nothing e = none (rw e) (λ k img. rw e (same-both (eqb (ruledOf a b c .drive) k) img))
     go (Store place byte) e =
         one (record { drive = ruledOf a b c .drive; place = place; byte = byte }) (rw e) (λ k img. rw e)
@@ -160,7 +160,7 @@ one-store (reads offset) c = none refl (λ k img. refl)
 one-store (writes offset byte) c = none refl (λ k img. refl)
 one-store (takes tc) c = none refl (λ k img. refl)
 one-store (gives byte tc) c = none refl (λ k img. refl)
-one-store (one-tick a b) c = tick-store a b c
+one-store (ticks a b) c = tick-store a b c
 one-store (notes drive) c = none refl (λ k img. refl)
 
 -- all the stores of calls lead to the images that they leave
@@ -226,17 +226,17 @@ unfolding tickCalls
 from-short n zero a b c h = refl
 from-short zero (suc j) a b c h = absurd (omega arith)
 from-short (suc n) (suc j) a b c h =
-    go (changed (intOf c) (drqOf c) (answerTo (one-tick a b) c .int) (answerTo (one-tick a b) c .drq)) h
-    (from-short n j (imageAfter 0 a b c a) (imageAfter 1 a b c b) (after (one-tick a b) c))
+    go (changed (intOf c) (drqOf c) (answerTo (ticks a b) c .int) (answerTo (ticks a b) c .drq)) h
+    (from-short n j (imageAfter 0 a b c a) (imageAfter 1 a b c b) (after (ticks a b) c))
   where
     rest : ℕ → List Call
-    rest m = tickCalls m (imageAfter 0 a b c a) (imageAfter 1 a b c b) (after (one-tick a b) c)
+    rest m = tickCalls m (imageAfter 0 a b c a) (imageAfter 1 a b c b) (after (ticks a b) c)
 
-    go : (t : Bool) → suc j ≤ length (one-tick a b ∷ cond t [] (rest n))
+    go : (t : Bool) → suc j ≤ length (ticks a b ∷ cond t [] (rest n))
         → (j ≤ length (rest n) → take j (rest n) ≡ rest j)
-        → one-tick a b ∷ take j (cond t [] (rest n)) ≡ one-tick a b ∷ cond t [] (rest j)
-    go true l later = ap (λ r. one-tick a b ∷ r) (take-nil j)
-    go false l later = ap (λ r. one-tick a b ∷ r) (later (omega arith))
+        → ticks a b ∷ take j (cond t [] (rest n)) ≡ ticks a b ∷ cond t [] (rest j)
+    go true l later = ap (λ r. ticks a b ∷ r) (take-nil j)
+    go false l later = ap (λ r. ticks a b ∷ r) (later (omega arith))
 
 pub made-short : (n j : ℕ) (a b : List ℕ) (c : Controller) → j ≤ length (ticksMade n a b c)
     → take j (ticksMade n a b c) ≡ ticksMade j a b c
@@ -253,13 +253,13 @@ from-most : (n : ℕ) (a b : List ℕ) (c : Controller) → length (tickCalls n 
 unfolding tickCalls
 from-most zero a b c = omega arith
 from-most (suc n) a b c =
-    go (changed (intOf c) (drqOf c) (answerTo (one-tick a b) c .int) (answerTo (one-tick a b) c .drq))
-    (from-most n (imageAfter 0 a b c a) (imageAfter 1 a b c b) (after (one-tick a b) c))
+    go (changed (intOf c) (drqOf c) (answerTo (ticks a b) c .int) (answerTo (ticks a b) c .drq))
+    (from-most n (imageAfter 0 a b c a) (imageAfter 1 a b c b) (after (ticks a b) c))
   where
     rest : List Call
-    rest = tickCalls n (imageAfter 0 a b c a) (imageAfter 1 a b c b) (after (one-tick a b) c)
+    rest = tickCalls n (imageAfter 0 a b c a) (imageAfter 1 a b c b) (after (ticks a b) c)
 
-    go : (t : Bool) → length rest ≤ n → length (one-tick a b ∷ cond t [] rest) ≤ suc n
+    go : (t : Bool) → length rest ≤ n → length (ticks a b ∷ cond t [] rest) ≤ suc n
     go true later = omega arith
     go false later = omega arith
 

@@ -13,7 +13,7 @@ use Rattle.fdc.specs.declared.record.Controller.{Controller}
 use Rattle.fdc.specs.Answer.{numberIn, answerOf}
 use Rattle.fdc.specs.Record.{withFifo}
 use Rattle.reached.specs.Runs.{Call, reads, writes, takes, gives, notes, answerTo, after, runCalls}
-use Rattle.reached.specs.Runs.{ticks as one-tick}
+use Rattle.reached.specs.Runs.{ticks}
 use Rattle.fdc.specs.Ticks.{tickReply}
 use Rattle.demands.specs.Work.{imageLeft}
 use Rattle.answers.specs.Refusals.{keptBy}
@@ -28,7 +28,7 @@ use Rattle.capi.specs.Calls.{setIn, writtenBack, wordBack, bytesFrom, cycledOf,
 use Rattle.capi.specs.Calls.{imageFrom, longFrom, firstFrom, secondFrom}
 use Rattle.capi.specs.Word.{wordOf, longOf}
 use Rattle.firmware.specs.Calls.{World, BelCall, power-on, read-port, write-port, dma-read, dma-write, tick}
-use Rattle.firmware.specs.Calls.{note-change, ticks, lends, wordTo, bytesAfter, firstAfter, secondAfter}
+use Rattle.firmware.specs.Calls.{note-change, tick-many, lends, wordTo, bytesAfter, firstAfter, secondAfter}
 use Rattle.firmware.specs.Calls.{worldAfter, worldLeft}
 use Rattle.firmware.specs.Made.{Box, ticksMade, callsIn, boxBy, lent, boxAfter, boxLeft, callsMade, wordBy}
 use Rattle.firmware.specs.Lists.{ShowsBox, OverLists}
@@ -76,7 +76,7 @@ lent-record (dma-read tc) x = refl
 lent-record (dma-write byte tc) x = refl
 lent-record tick x = refl
 lent-record (note-change drive) x = refl
-lent-record (ticks n) x = refl
+lent-record (tick-many n) x = refl
 lent-record (lends a b) x = refl
 
 -- one call, on bytes that hold the record
@@ -124,9 +124,9 @@ module _ (l : List ℕ) (x : Box) (h : HoldsRecord l (x .controller)) (t : Typed
   bytes-hold (dma-read tc) = rw (h .back) (cycle (takes (setIn tc)) refl (read-keeps (setIn tc) (x .controller)))
   bytes-hold (dma-write byte tc) =
       rw (h .back) (cycle (gives byte (setIn tc)) refl (write-keeps byte (setIn tc) (x .controller)))
-  bytes-hold tick = rw (h .back) (plain (one-tick (x .first) (x .second)) refl)
+  bytes-hold tick = rw (h .back) (plain (ticks (x .first) (x .second)) refl)
   bytes-hold (note-change drive) = rw (h .back) (plain (notes drive) refl)
-  bytes-hold (ticks n) = rw (h .back) (many n)
+  bytes-hold (tick-many n) = rw (h .back) (many n)
   bytes-hold (lends a b) = h
 
   first-is : (call : BelCall) → firstAfter call (lent-as l x) ≡ boxAfter call x .first
@@ -138,7 +138,7 @@ module _ (l : List ℕ) (x : Box) (h : HoldsRecord l (x .controller)) (t : Typed
   first-is (dma-write byte tc) = refl
   first-is tick = rw (h .good, h .back)
   first-is (note-change drive) = refl
-  first-is (ticks n) =
+  first-is (tick-many n) =
       rw (h .good, h .back) (ap (λ (q : Ran). q .first) (ticks-are n (x .first) (x .second) (x .controller)))
   first-is (lends a b) = refl
 
@@ -151,7 +151,7 @@ module _ (l : List ℕ) (x : Box) (h : HoldsRecord l (x .controller)) (t : Typed
   second-is (dma-write byte tc) = refl
   second-is tick = rw (h .good, h .back)
   second-is (note-change drive) = refl
-  second-is (ticks n) =
+  second-is (tick-many n) =
       rw (h .good, h .back) (ap (λ (q : Ran). q .second) (ticks-are n (x .first) (x .second) (x .controller)))
   second-is (lends a b) = refl
 
@@ -164,7 +164,7 @@ module _ (l : List ℕ) (x : Box) (h : HoldsRecord l (x .controller)) (t : Typed
   word-is (dma-write byte tc) = rw (h .good, h .back)
   word-is tick = rw (h .good, h .back)
   word-is (note-change drive) = rw (h .good, h .back)
-  word-is (ticks n) =
+  word-is (tick-many n) =
       rw (h .good, h .back)
       (ap (λ (q : Ran). longOf (wordOf (q .answer)) (q .made)) (ticks-are n (x .first) (x .second) (x .controller)))
   word-is (lends a b) = refl

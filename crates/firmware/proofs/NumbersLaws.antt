@@ -27,7 +27,7 @@ use Rattle.reached.specs.Runs.{Call, after}
 use Rattle.reached.specs.Valid.{ValidKept}
 use Rattle.reached.proofs.GoodLaws.{within-rule}
 use Rattle.reached.proofs.RuleLaws.{acts-kept, rule-of}
-use Rattle.reached.proofs.Rules.{Acts, begins, goes-on, bytesThen, phaseThen, Rest, refuses, shows, steps, flags, sets, anew, took, gave, gathers, says, idles, specifies, configures, senses, starts, acts}
+use Rattle.reached.proofs.Rules.{Acts, begins, goes-on, bytesThen, phaseThen, Rest, refuses, shows, steps, flags, sets, anew, took-byte, gave-byte, gathers, says, idles, specifies, configures, senses, starts, acts}
 use Rattle.firmware.proofs.StepShapeLaws.{Fine, room-taken, room-given, go-on-fine, begin-fine}
 
 -- of the engine's step: the FIFO's array and count, and how far it counts bytes
@@ -105,14 +105,14 @@ module _ (call : Call) (c : Controller) (v : Valid c) where
     fifothr = omega (arith, t);
     wait = omega arith;
   }
-  numbers ds reply r f b p (took tc x work q h asks) = record {
+  numbers ds reply r f b p (took-byte tc x work q h asks) = record {
     fifo = room-taken (c .registers .efifo) tc (c .fifo) .within (v .fifo);
     gathered = v .gathered;
     left = v .left;
     fifothr = v .fifothr;
     wait = v .wait;
   }
-  numbers ds reply r f b p (gave byte tc x work q h asks) = record {
+  numbers ds reply r f b p (gave-byte byte tc x work q h asks) = record {
     fifo = room-given (c .registers .efifo) _ byte (c .fifo) .within (v .fifo);
     gathered = v .gathered;
     left = v .left;

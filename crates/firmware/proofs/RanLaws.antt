@@ -16,7 +16,7 @@ use Rattle.fdc.specs.Answer.{valueOf, numberIn, answerOf}
 use Rattle.fdc.specs.Record.{validOf}
 use Rattle.fdc.specs.Registers.{intOf, drqOf}
 use Rattle.reached.specs.Runs.{Call, answerTo, after, runCalls}
-use Rattle.reached.specs.Runs.{ticks as one-tick}
+use Rattle.reached.specs.Runs.{ticks}
 use Rattle.fdc.specs.Ticks.{tickReply, tickOf, ruledOf, imageAfter}
 use Rattle.demands.specs.Work.{imageLeft}
 use Rattle.many_ticks.specs.Run.{Ran, ranWith, ranOn, changed, changedIn, ranFor, noTickMade, refusedOf, manyTicks}
@@ -56,7 +56,7 @@ run-is (suc n) made reply a b c =
     go : (t : Bool)
         → ranFor n (ranWith next (made + 1) first second) ≡ ranBy next (made + 1) rest first second (next .controller)
         → cond t (ranWith next (made + 1) first second) (ranFor n (ranWith next (made + 1) first second))
-        ≡ ranBy (answerOf reply c) made (one-tick a b ∷ cond t [] rest) a b c
+        ≡ ranBy (answerOf reply c) made (ticks a b ∷ cond t [] rest) a b c
     go true later = refl
     go false later =
         later

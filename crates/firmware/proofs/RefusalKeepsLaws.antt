@@ -27,7 +27,7 @@ use Rattle.fdc.specs.Record.{freshOf, validOf, driveAt}
 use Rattle.fdc.proofs.DmaLaws.{dma-read-is}
 use Rattle.fdc.specs.Registers.{heldIn, motorIn, dmaIn, bit, busyBits, flowStatus, phaseStatus, msrOf, drqOf, dirOf}
 use Rattle.reached.specs.Runs.{Call, powers, reads, writes, takes, gives, notes, answerTo}
-use Rattle.reached.specs.Runs.{ticks as one-tick}
+use Rattle.reached.specs.Runs.{ticks}
 use Rattle.demands.specs.Quiet.{AllBytes}
 use Rattle.answers.specs.Refusals.{Row, Given, numberTo, ReadsNothing}
 use Rattle.answers.proofs.RefusalLaws.{refused-exactly}
@@ -40,7 +40,7 @@ use Rattle.capi.specs.Word.{noRecord, wordOf, longOf}
 use Rattle.capi.proofs.KeepLaws.{refusal-keeps-bytes}
 use Rattle.capi.proofs.WordLaws.{word-apart}
 use Rattle.firmware.specs.Calls.{World, BelCall, power-on, read-port, write-port, dma-read, dma-write, tick}
-use Rattle.firmware.specs.Calls.{note-change, ticks, lends, wordTo, bytesAfter, firstAfter, secondAfter}
+use Rattle.firmware.specs.Calls.{note-change, tick-many, lends, wordTo, bytesAfter, firstAfter, secondAfter}
 use Rattle.firmware.specs.Calls.{worldAfter}
 use Rattle.firmware.specs.Lists.{NeedsRecord, refusalIn, Left, RefusalKeeps}
 use Rattle.firmware.proofs.AnyBytesLaws.{bytes-at, same-world, no-record, too-few}
@@ -137,7 +137,7 @@ NoPower (reads offset) = Unit {0}
 NoPower (writes offset byte) = Unit {0}
 NoPower (takes tc) = Unit {0}
 NoPower (gives byte tc) = Unit {0}
-NoPower (one-tick a b) = Unit {0}
+NoPower (ticks a b) = Unit {0}
 NoPower (notes drive) = Unit {0}
 
 no-row : (call : Call) (c : Controller) → NoPower call → Row 5 call c → ⊥
@@ -148,7 +148,7 @@ no-row (writes offset byte) c n (inl r) = omega (arith, r .0)
 no-row (writes offset byte) c n (inr r) = omega (arith, r .0)
 no-row (takes tc) c n r = omega (arith, r .0)
 no-row (gives byte tc) c n r = omega (arith, r .0)
-no-row (one-tick a b) c n r = r
+no-row (ticks a b) c n r = r
 no-row (notes drive) c n r = omega (arith, r .0)
 
 not-given : (call : Call) (c : Controller) → NoPower call → Given 5 call c → ⊥
@@ -203,18 +203,18 @@ module _ (w : World) (all : AllBytes (w .bytes)) (good : isRecord (w .bytes) ≡
       (not-five own c n) kept
 
   -- many ticks: a refusal is 4, of a damaged record, and none is made
-  many : (n : ℕ) → Keeps (ticks n)
+  many : (n : ℕ) → Keeps (tick-many n)
   unfolding wordTo bytesAfter firstAfter secondAfter longFrom firstFrom secondFrom answerOf
   many n refused =
       let a : List ℕ = w .first in
       let b : List ℕ = w .second in
       let r : Ran = manyTicks n a b c in
-      let word : wordTo (ticks n) w ≡ longOf (wordOf (r .answer)) (r .made) = rw good in
+      let word : wordTo (tick-many n) w ≡ longOf (wordOf (r .answer)) (r .made) = rw good in
       let is : (numberIn (r .answer .reply) ≡ 0 → ⊥) → r ≡ refusedOf a b c = ticks-refused n a b c in
-      left-by w (worldAfter (ticks n) w) (wordTo (ticks n) w) (r .answer) (omega (arith, ticks-nothing n a b c))
+      left-by w (worldAfter (tick-many n) w) (wordTo (tick-many n) w) (r .answer) (omega (arith, ticks-nothing n a b c))
       (ap refusalIn word ∙ long-refusal (wordOf (r .answer)) (r .made)) refused
       (λ five. absurd (omega (arith, five, ap (λ (q : Ran). numberIn (q .answer .reply)) (is (λ z. omega arith)))))
-      (λ z. same-world w (ticks n) (refusal-keeps-bytes (w .bytes) (r .answer) z .0)
+      (λ z. same-world w (tick-many n) (refusal-keeps-bytes (w .bytes) (r .answer) z .0)
       (rw good (ap (λ (q : Ran). q .first) (is z))) (rw good (ap (λ (q : Ran). q .second) (is z))))
 
   keeps : (call : BelCall) → NeedsRecord call → Keeps call
@@ -235,7 +235,7 @@ module _ (w : World) (all : AllBytes (w .bytes)) (good : isRecord (w .bytes) ≡
       (λ r. same-world w (dma-write byte tc)
       (refusal-keeps-bytes (w .bytes) (answerTo (gives byte (setIn tc)) c) r .1) refl refl)
   keeps tick n =
-      let own : Call = one-tick (w .first) (w .second) in
+      let own : Call = ticks (w .first) (w .second) in
       plain tick own refl tt (nothing-small own c tt)
       (λ r. same-world w tick (refusal-keeps-bytes (w .bytes) (answerTo own c) r .0)
       (rw good (refused-exactly .images own c (omega arith) 0 (w .first)))
@@ -243,7 +243,7 @@ module _ (w : World) (all : AllBytes (w .bytes)) (good : isRecord (w .bytes) ≡
   keeps (note-change drive) n =
       plain (note-change drive) (notes drive) refl tt (nothing-small (notes drive) c tt)
       (λ r. same-world w (note-change drive) (refusal-keeps-bytes (w .bytes) (answerTo (notes drive) c) r .0) refl refl)
-  keeps (ticks m) n = many m
+  keeps (tick-many m) n = many m
   keeps (lends a b) n = absurd n
 
 -- power-on with enough bytes is refused with 5 alone
@@ -317,5 +317,5 @@ refusal-keeps w all (dma-read tc) r = on-bytes w all (dma-read tc) tt r
 refusal-keeps w all (dma-write byte tc) r = on-bytes w all (dma-write byte tc) tt r
 refusal-keeps w all tick r = on-bytes w all tick tt r
 refusal-keeps w all (note-change drive) r = on-bytes w all (note-change drive) tt r
-refusal-keeps w all (ticks n) r = on-bytes w all (ticks n) tt r
+refusal-keeps w all (tick-many n) r = on-bytes w all (tick-many n) tt r
 refusal-keeps w all (lends a b) r = absurd (r refl)

@@ -34,7 +34,7 @@ use Rattle.fdc.specs.Ticks.{tickOf}
 use Rattle.reached.specs.Runs.{Call, powers, ticks, answerTo, after, runCalls}
 use Rattle.firmware.proofs.NumbersLaws.{acts-fine, valid-kept}
 use Rattle.reached.proofs.RuleLaws.{told-room, rule-of}
-use Rattle.reached.proofs.Rules.{DriveRule, kept, noted, powered, reset, restarted, released, sensed, set-off, ticked, bytesThen, phaseThen, Rest, refuses, shows, steps, flags, sets, anew, took, gave, gathers, says, idles, specifies, configures, senses, starts, acts}
+use Rattle.reached.proofs.Rules.{DriveRule, kept, noted, powered, reset, restarted, released, sensed, set-off, ticked, bytesThen, phaseThen, Rest, refuses, shows, steps, flags, sets, anew, took-byte, gave-byte, gathers, says, idles, specifies, configures, senses, starts, acts}
 use Rattle.firmware.proofs.StepShapeLaws.{room-taken, room-given, thenDone}
 use Rattle.pack.specs.Back.{DrivesFit, Typed}
 use Rattle.pack.specs.Bytes.{courseOf}
@@ -146,14 +146,14 @@ module _ (call : Call) (c : Controller) (t : Typed c) where
   shapes ds reply r f b p (sets offset byte q o n s) = same
   shapes ds reply r f b p (anew x reply′ n e z s still) =
       record { fifo = refl; command = refl; results = refl; done = omega arith }
-  shapes ds reply r f b p (took tc x work q h asks) =
+  shapes ds reply r f b p (took-byte tc x work q h asks) =
       record {
         fifo = room-taken true tc (c .fifo) .sixteen (t .fifo);
         command = t .command;
         results = t .results;
         done = t .done;
       }
-  shapes ds reply r f b p (gave byte tc x work q h asks) =
+  shapes ds reply r f b p (gave-byte byte tc x work q h asks) =
       record {
         fifo = room-given (c .registers .efifo) _ byte (c .fifo) .sixteen (t .fifo);
         command = t .command;

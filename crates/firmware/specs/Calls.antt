@@ -25,7 +25,7 @@ pub data BelCall : Type 0 where
   dma-write : ℕ → ℕ → BelCall
   tick : BelCall
   note-change : ℕ → BelCall
-  ticks : ℕ → BelCall
+  tick-many : ℕ → BelCall
   lends : List ℕ → List ℕ → BelCall
 
 -- the word that a call returns; 0 stands where nothing is called
@@ -37,7 +37,7 @@ wordTo (dma-read tc) w = wordBack (w .bytes) (dmaRead (setIn tc) (recordIn (w .b
 wordTo (dma-write byte tc) w = wordBack (w .bytes) (dmaWrite byte (setIn tc) (recordIn (w .bytes)))
 wordTo tick w = wordBack (w .bytes) (tickOf (w .first) (w .second) (recordIn (w .bytes)))
 wordTo (note-change drive) w = wordBack (w .bytes) (noteChange drive (recordIn (w .bytes)))
-wordTo (ticks n) w = longFrom n (w .bytes) (w .first) (w .second)
+wordTo (tick-many n) w = longFrom n (w .bytes) (w .first) (w .second)
 wordTo (lends a b) w = 0
 
 -- the record's bytes after it
@@ -49,7 +49,7 @@ bytesAfter (dma-read tc) w = cycleFrom (w .bytes) (dmaRead (setIn tc) (recordIn 
 bytesAfter (dma-write byte tc) w = cycleFrom (w .bytes) (dmaWrite byte (setIn tc) (recordIn (w .bytes)))
 bytesAfter tick w = bytesFrom (w .bytes) (tickOf (w .first) (w .second) (recordIn (w .bytes)))
 bytesAfter (note-change drive) w = bytesFrom (w .bytes) (noteChange drive (recordIn (w .bytes)))
-bytesAfter (ticks n) w = bytesFrom (w .bytes) (manyTicks n (w .first) (w .second) (recordIn (w .bytes)) .answer)
+bytesAfter (tick-many n) w = bytesFrom (w .bytes) (manyTicks n (w .first) (w .second) (recordIn (w .bytes)) .answer)
 bytesAfter (lends a b) w = w .bytes
 
 -- and the images: only the two that are lent them change them
@@ -61,7 +61,7 @@ firstAfter (dma-read tc) w = w .first
 firstAfter (dma-write byte tc) w = w .first
 firstAfter tick w = imageFrom 0 (w .bytes) (w .first) (w .second) (w .first)
 firstAfter (note-change drive) w = w .first
-firstAfter (ticks n) w = firstFrom n (w .bytes) (w .first) (w .second)
+firstAfter (tick-many n) w = firstFrom n (w .bytes) (w .first) (w .second)
 firstAfter (lends a b) w = a
 
 unfoldable pub secondAfter : BelCall → World → List ℕ
@@ -72,7 +72,7 @@ secondAfter (dma-read tc) w = w .second
 secondAfter (dma-write byte tc) w = w .second
 secondAfter tick w = imageFrom 1 (w .bytes) (w .first) (w .second) (w .second)
 secondAfter (note-change drive) w = w .second
-secondAfter (ticks n) w = secondFrom n (w .bytes) (w .first) (w .second)
+secondAfter (tick-many n) w = secondFrom n (w .bytes) (w .first) (w .second)
 secondAfter (lends a b) w = b
 
 abbrev pub worldAfter : BelCall → World → World

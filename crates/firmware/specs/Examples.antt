@@ -16,7 +16,7 @@ use Rattle.fdc.specs.declared.record.Controller.{Controller}
 use Rattle.fdc.specs.Calls.{powerOn}
 use Rattle.demands.specs.Work.{Its}
 use Rattle.pack.specs.Bytes.{recordSize}
-use Rattle.firmware.specs.Calls.{World, BelCall, power-on, write-port, dma-write, ticks, wordTo, worldLeft}
+use Rattle.firmware.specs.Calls.{World, BelCall, power-on, write-port, dma-write, tick-many, wordTo, worldLeft}
 use Rattle.firmware.specs.Made.{boxLeft, callsMade}
 use Rattle.firmware.specs.FromFirmware.{Stays, boxOf, Accepted, storesOn}
 use Rattle.firmware.specs.Inside.{StoreMade}
@@ -54,18 +54,18 @@ ordered = record { drive = 0; side = 0; job = Move written sectorOne }
 
 -- the first tick's tests turn DRQ on, which stops any number; then a byte comes
 abbrev pub served : List BelCall
-served = ticks 9 ∷ dma-write 0xA5 0 ∷ []
+served = tick-many 9 ∷ dma-write 0xA5 0 ∷ []
 
 abbrev pub storeMade : ℕ → ℕ → StoreMade
 storeMade place byte = record { drive = 0; place = place; byte = byte }
 
 pub record FirmwareExamples : Type 0 where
   pub accepted : Accepted begun writer ordered written sectorOne (disk 1 1 2 1)
-  pub its : Its (callsMade (served ++ (ticks 100 ∷ [])) (boxOf writer begun)) writer
+  pub its : Its (callsMade (served ++ (tick-many 100 ∷ [])) (boxOf writer begun)) writer
   pub stays : Stays 0 served (boxOf writer begun)
   -- INT is on from the reset's release; DRQ after one tick; off after the byte; then the look, the broken mark and the
   -- byte, and DRQ again
-  pub first-word : wordTo (ticks 9) begun ≡ 0x100030000
-  pub byte-word : wordTo (dma-write 0xA5 0) (worldLeft (ticks 9 ∷ []) begun) ≡ 0x10000
-  pub last-word : wordTo (ticks 100) (worldLeft served begun) ≡ 0x300030000
+  pub first-word : wordTo (tick-many 9) begun ≡ 0x100030000
+  pub byte-word : wordTo (dma-write 0xA5 0) (worldLeft (tick-many 9 ∷ []) begun) ≡ 0x10000
+  pub last-word : wordTo (tick-many 100) (worldLeft served begun) ≡ 0x300030000
   pub stores : storesOn 100 (worldLeft served begun) ≡ storeMade 13 3 ∷ storeMade 18 0xA5 ∷ []

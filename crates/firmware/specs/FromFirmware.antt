@@ -19,7 +19,7 @@ use Rattle.demands.specs.Work.{Real, Its}
 use Rattle.pack.specs.Back.{HoldsRecord}
 use Rattle.pack.specs.Bytes.{recordSize, recordIn}
 use Rattle.firmware.specs.Calls.{World, BelCall, power-on, read-port, write-port, dma-read, dma-write, tick}
-use Rattle.firmware.specs.Calls.{note-change, ticks, lends, worldLeft}
+use Rattle.firmware.specs.Calls.{note-change, tick-many, lends, worldLeft}
 use Rattle.firmware.specs.Inside.{StoreMade, putAll, storesIn}
 use Rattle.firmware.specs.Made.{Box, boxAfter, callsMade}
 
@@ -32,7 +32,7 @@ OfBelBytes (dma-read tc) = tc < 256
 OfBelBytes (dma-write byte tc) = (byte < 256) × (tc < 256)
 OfBelBytes tick = Unit {0}
 OfBelBytes (note-change drive) = drive < 256
-OfBelBytes (ticks n) = Unit {0}
+OfBelBytes (tick-many n) = Unit {0}
 OfBelBytes (lends a b) = Unit {0}
 
 abbrev pub AllBelBytes : List BelCall → Type 0
@@ -48,7 +48,7 @@ StaysBy drive (dma-read tc) x = Unit {0}
 StaysBy drive (dma-write byte tc) x = Unit {0}
 StaysBy drive tick x = Unit {0}
 StaysBy drive (note-change drive′) x = Unit {0}
-StaysBy drive (ticks n) x = Unit {0}
+StaysBy drive (tick-many n) x = Unit {0}
 StaysBy drive (lends a b) x = pickOf drive a b ≡ pickOf drive (x .first) (x .second)
 
 unfoldable pub Stays : ℕ → List BelCall → Box → Type 0
@@ -100,7 +100,7 @@ pub record FromFirmware : Type 0 where
   -- and with the power gone inside a `bel_ticks` of n, after i of its stores: as after j of its ticks
   pub cut-inside : (w : World) (c : Controller) (order : Order) (transfer : Transfer) (id : Id) (g : Geometry)
       → Accepted w c order transfer id g → (calls : List BelCall) (n i : ℕ)
-      → Its (callsMade (calls ++ (ticks n ∷ [])) (boxOf c w)) c → Stays (order .drive) calls (boxOf c w)
+      → Its (callsMade (calls ++ (tick-many n ∷ [])) (boxOf c w)) c → Stays (order .drive) calls (boxOf c w)
       → (j : ℕ) × ((j ≤ n)
-      × LeftAfter w c order transfer id g (calls ++ (ticks j ∷ []))
+      × LeftAfter w c order transfer id g (calls ++ (tick-many j ∷ []))
       (worldImage (order .drive) (inside n i (worldLeft calls w))))

@@ -17,7 +17,7 @@ use Rattle.pack.specs.Bytes.{byteAt, recordSize, recordIn, isRecord}
 use Rattle.pack.specs.Places.{version, versionAt}
 use Rattle.capi.specs.Word.{noRecord}
 use Rattle.firmware.specs.Calls.{World, BelCall, power-on, read-port, write-port, dma-read, dma-write, tick}
-use Rattle.firmware.specs.Calls.{note-change, ticks, lends, wordTo, worldAfter, worldLeft}
+use Rattle.firmware.specs.Calls.{note-change, tick-many, lends, wordTo, worldAfter, worldLeft}
 use Rattle.firmware.specs.Made.{Box, boxLeft, callsMade, wordBy}
 
 -- what is lent holds that record, and those are the images
@@ -47,7 +47,7 @@ NeedsRecord (dma-read tc) = Unit {0}
 NeedsRecord (dma-write byte tc) = Unit {0}
 NeedsRecord tick = Unit {0}
 NeedsRecord (note-change drive) = Unit {0}
-NeedsRecord (ticks n) = Unit {0}
+NeedsRecord (tick-many n) = Unit {0}
 NeedsRecord (lends a b) = ⊥
 
 -- whatever the bytes are

@@ -11,14 +11,14 @@ use Rattle.fdc.specs.Answer.{answerOf}
 use Rattle.fdc.specs.Record.{validOf}
 use Rattle.fdc.specs.Registers.{intOf, drqOf}
 use Rattle.reached.specs.Runs.{Call, powers, reads, writes, takes, gives, notes, answerTo, after, runCalls}
-use Rattle.reached.specs.Runs.{ticks as one-tick}
+use Rattle.reached.specs.Runs.{ticks}
 use Rattle.fdc.specs.Ticks.{tickReply, imageAfter}
 use Rattle.demands.specs.Work.{imageLeft}
 use Rattle.many_ticks.specs.Run.{changed}
 use Rattle.capi.specs.Calls.{setIn}
 use Rattle.capi.specs.Word.{wordOf, longOf}
 use Rattle.firmware.specs.Calls.{BelCall, power-on, read-port, write-port, dma-read, dma-write, tick, note-change}
-use Rattle.firmware.specs.Calls.{ticks, lends}
+use Rattle.firmware.specs.Calls.{tick-many, lends}
 
 -- the box of document 01: the record, and the images of drives 0 and 1
 pub record Box : Type 0 where
@@ -30,9 +30,9 @@ pub record Box : Type 0 where
 unfoldable pub tickCalls : ℕ → List ℕ → List ℕ → Controller → List Call
 tickCalls zero a b c = []
 tickCalls (suc n) a b c =
-    one-tick a b
-    ∷ cond (changed (intOf c) (drqOf c) (answerTo (one-tick a b) c .int) (answerTo (one-tick a b) c .drq)) []
-    (tickCalls n (imageAfter 0 a b c a) (imageAfter 1 a b c b) (after (one-tick a b) c))
+    ticks a b
+    ∷ cond (changed (intOf c) (drqOf c) (answerTo (ticks a b) c .int) (answerTo (ticks a b) c .drq)) []
+    (tickCalls n (imageAfter 0 a b c a) (imageAfter 1 a b c b) (after (ticks a b) c))
 
 -- 01 Refusals 4: of a damaged record none is made
 unfoldable pub ticksMade : ℕ → List ℕ → List ℕ → Controller → List Call
@@ -45,9 +45,9 @@ callsIn (read-port offset) x = reads offset ∷ []
 callsIn (write-port offset byte) x = writes offset byte ∷ []
 callsIn (dma-read tc) x = takes (setIn tc) ∷ []
 callsIn (dma-write byte tc) x = gives byte (setIn tc) ∷ []
-callsIn tick x = one-tick (x .first) (x .second) ∷ []
+callsIn tick x = ticks (x .first) (x .second) ∷ []
 callsIn (note-change drive) x = notes drive ∷ []
-callsIn (ticks n) x = ticksMade n (x .first) (x .second) (x .controller)
+callsIn (tick-many n) x = ticksMade n (x .first) (x .second) (x .controller)
 callsIn (lends a b) x = []
 
 -- the record and the images after calls of document 01: the images by their ticks, one after the other
@@ -68,7 +68,7 @@ lent (dma-read tc) x = x
 lent (dma-write byte tc) x = x
 lent tick x = x
 lent (note-change drive) x = x
-lent (ticks n) x = x
+lent (tick-many n) x = x
 lent (lends a b) x = record { controller = x .controller; first = a; second = b }
 
 abbrev pub boxAfter : BelCall → Box → Box
@@ -96,10 +96,10 @@ wordBy (read-port offset) x = wordOf (answerTo (reads offset) (x .controller))
 wordBy (write-port offset byte) x = wordOf (answerTo (writes offset byte) (x .controller))
 wordBy (dma-read tc) x = wordOf (answerTo (takes (setIn tc)) (x .controller))
 wordBy (dma-write byte tc) x = wordOf (answerTo (gives byte (setIn tc)) (x .controller))
-wordBy tick x = wordOf (answerTo (one-tick (x .first) (x .second)) (x .controller))
+wordBy tick x = wordOf (answerTo (ticks (x .first) (x .second)) (x .controller))
 wordBy (note-change drive) x = wordOf (answerTo (notes drive) (x .controller))
-wordBy (ticks n) x =
+wordBy (tick-many n) x =
     longOf
-    (wordOf (lastOf (answerOf (tickReply (x .controller)) (x .controller)) (callsIn (ticks n) x) (x .controller)))
-    (length (callsIn (ticks n) x))
+    (wordOf (lastOf (answerOf (tickReply (x .controller)) (x .controller)) (callsIn (tick-many n) x) (x .controller)))
+    (length (callsIn (tick-many n) x))
 wordBy (lends a b) x = 0

@@ -1,4 +1,4 @@
--- 01 Example 3, 01 Example 4, and an image to try the definitions on. The proofs are in proofs/ImageExamples.antt.
+-- 01 Example 3, 01 Example 4, and an image to try the definitions on. The proofs are in proofs/Examples.antt.
 -- Assumes nothing.
 use Prim.Native.Nat.{ℕ}
 use mathlib.Core.Bool.{false}

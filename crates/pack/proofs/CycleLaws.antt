@@ -143,7 +143,7 @@ cycles-told l h =
       still3 = told (eqb (byteAt (rowAt l (driveRow 3)) motionAt) 0) (λ e. simp (e, and-false) at h);
     }
 
--- a count atMost the bound of a wait, whatever it counts
+-- a count within the bound of a wait, whatever it counts
 wait-within : (spot : Spot) → leb (spot .count) 64 ≡ true → leb (stageWait (stageFrom spot)) 64 ≡ true
 unfolding stageFrom
 wait-within spot h =

@@ -19,7 +19,7 @@ askedIn registers flow head =
     gateIn (byteAt registers dorAt) && dmaIn (byteAt registers spec2At) && flagAt flow asksAt
     && eqb (byteAt head tagAt) 3 && eqb (byteAt head workAt) 1
 
--- 01 Refusals 4: FIFO count and FIFOTHR are atMost their bounds; and command bytes, result bytes and wait
+-- 01 Refusals 4: FIFO count and FIFOTHR are within their bounds; and command bytes, result bytes and wait
 unfoldable pub fifoBounded : List ℕ → List ℕ → Bool
 fifoBounded registers flow =
     leb (byteAt flow countAt) (capacityOf (flagAt registers efifoAt)) && atMost registers fifothrAt 15

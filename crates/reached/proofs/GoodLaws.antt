@@ -31,7 +31,7 @@ use Rattle.fdc.specs.Record.{resultRoom, freshOf, driveAt, phaseWait, validOf}
 use Rattle.fdc.proofs.ValidLaws.{valid-true}
 use Rattle.reached.specs.Good.{Four, Suits, Good}
 use Rattle.reached.specs.Runs.{Call, powers, answerTo, after, runCalls, Reached}
-use Rattle.reached.proofs.Rules.{engaged, DriveRule, kept, noted, powered, reset, restarted, released, sensed, set-off, ticked, Collects, first, further, Told, Acts, begins, goes-on, bytesThen, phaseThen, Rest, refuses, shows, steps, flags, sets, anew, took, gave, gathers, says, idles, specifies, configures, senses, starts, acts}
+use Rattle.reached.proofs.Rules.{engaged, DriveRule, kept, noted, powered, reset, restarted, released, sensed, set-off, ticked, Collects, first, further, Told, Acts, begins, goes-on, bytesThen, phaseThen, Rest, refuses, shows, steps, flags, sets, anew, took-byte, gave-byte, gathers, says, idles, specifies, configures, senses, starts, acts}
 use Rattle.reached.proofs.RuleLaws.{each-of, collects-unengaged, acts-kept, rule-of}
 
 pub four-of : (a b c d : Drive) → Within a → Within b → Within c → Within d → Four (a ∷ b ∷ c ∷ d ∷ [])
@@ -156,13 +156,13 @@ module _ (call : Call) (c : Controller) (g : Good c) where
     left = omega arith;
     phase = (refl, refl);
   }
-  holds ds reply r f b p (took tc x work q h asks) = record {
+  holds ds reply r f b p (took-byte tc x work q h asks) = record {
     fifo = fits-taken (c .registers .efifo) tc (c .fifo) (g .fifo);
     fifothr = g .fifothr;
     left = g .left;
     phase = suits-fifo (c .phase) work _ (c .fifo) _ q (g .phase);
   }
-  holds ds reply r f b p (gave byte tc x work q h asks) = record {
+  holds ds reply r f b p (gave-byte byte tc x work q h asks) = record {
     fifo = fits-given (c .registers .efifo) _ byte (c .fifo) (g .fifo);
     fifothr = g .fifothr;
     left = g .left;

@@ -31,7 +31,7 @@ use Rattle.reached.specs.Moves.{Calm, AllCalm, tickOne, tickCount, Awake
 use Rattle.reached.specs.Runs.{Call, powers, reads, writes, takes, gives, ticks, notes, answerTo, after, runCalls}
 use Rattle.reached.proofs.GoodLaws.{good-valid, good-after}
 use Rattle.reached.proofs.RuleLaws.{rule-of}
-use Rattle.reached.proofs.Rules.{Restarts, by-power, by-dor, by-dsr, DriveRule, kept, noted, powered, reset, restarted, released, sensed, set-off, ticked, Rest, refuses, shows, steps, flags, sets, anew, took, gave, gathers, says, idles, specifies, configures, senses, starts, acts}
+use Rattle.reached.proofs.Rules.{Restarts, by-power, by-dor, by-dsr, DriveRule, kept, noted, powered, reset, restarted, released, sensed, set-off, ticked, Rest, refuses, shows, steps, flags, sets, anew, took-byte, gave-byte, gathers, says, idles, specifies, configures, senses, starts, acts}
 
 -- what goes on goes on in a drive that is the same but for its change flag
 pub goes-same : (on : ℕ → ℕ → Motion) (goesIn : Bool) (number step pcn final due : ℕ) (d e : Drive) → Same d e
@@ -91,8 +91,8 @@ module _ (call : Call) (c : Controller) (calm : Calm call) (step : ℕ) (awake :
       go true e = absurd (false≢true (sym (awake .free) ∙ s .held e))
       go false e = e
   awake-rule ds reply r f b p l (anew x reply′ n e t s m) = absurd (calm-stays call calm x)
-  awake-rule ds reply r f b p l (took tc x work q h asks) = awake
-  awake-rule ds reply r f b p l (gave byte tc x work q h asks) = awake
+  awake-rule ds reply r f b p l (took-byte tc x work q h asks) = awake
+  awake-rule ds reply r f b p l (gave-byte byte tc x work q h asks) = awake
   awake-rule ds reply r f b p l (gathers b′ t m x n o) = awake
   awake-rule ds reply r f b p l (says h free reply′ results left m n o) = awake
   awake-rule ds reply r f b p l (idles h free reply′) = awake

@@ -53,7 +53,7 @@ use Rattle.fdc.proofs.BeginLaws.{one-more-le}
 use Rattle.fdc.proofs.DmaLaws.{dma-read-is, dma-write-is}
 use Rattle.fdc.proofs.PadLaws.{length-shifted}
 use Rattle.reached.specs.Runs.{Call, powers, reads, writes, takes, gives, ticks, notes, answerTo}
-use Rattle.reached.proofs.Rules.{engaged, Restarts, by-power, by-dor, by-dsr, DriveRule, kept, noted, powered, reset, restarted, released, sensed, set-off, ticked, SameSettings, by-read, by-cycle, by-write, by-dma, Collects, first, further, Told, Orders, moving, formatting, identifying, Acts, begins, goes-on, bytesThen, phaseThen, Rest, refuses, shows, steps, flags, sets, anew, took, gave, gathers, says, idles, specifies, configures, senses, starts, acts, Ruled}
+use Rattle.reached.proofs.Rules.{engaged, Restarts, by-power, by-dor, by-dsr, DriveRule, kept, noted, powered, reset, restarted, released, sensed, set-off, ticked, SameSettings, by-read, by-cycle, by-write, by-dma, Collects, first, further, Told, Orders, moving, formatting, identifying, Acts, begins, goes-on, bytesThen, phaseThen, Rest, refuses, shows, steps, flags, sets, anew, took-byte, gave-byte, gathers, says, idles, specifies, configures, senses, starts, acts, Ruled}
 
 -- offset 2 is DOR, 4 DSR, 5 the data register
 abbrev AtPort : Port → ℕ → Type 0
@@ -385,7 +385,7 @@ module _ (c : Controller) (e : eqb (msrOf c / 64) 3 ≡ true) where
   read-in (Gathering entry) q = same (reads 5) c _ (refuses _)
   read-in (Starting order) q = same (reads 5) c _ (refuses _)
   read-in (Working work) q =
-      leaves (reads 5) c _ _ refl (took false (by-read refl) work q (read-works work q .0) (read-works work q .1))
+      leaves (reads 5) c _ _ refl (took-byte false (by-read refl) work q (read-works work q .0) (read-works work q .1))
   read-in (Sensing unit) q = same (reads 5) c _ (refuses _)
   read-in (Answering loud) q =
       by-test (leb (c .bytes .left) 1) (λ (x : Controller). Ruled (reads 5) c (answerOf (Byte (getD (c .bytes .results) 0 0)) x)) _ _
@@ -426,7 +426,7 @@ module _ (byte : ℕ) (c : Controller) (e : eqb (msrOf c / 64) 2 ≡ true) where
   offered (Starting order) q = wrong-turn 0x10 2 _ (busy-below (c .drives)) (inl (omega arith)) (write-turned _ q)
   offered (Working work) q =
       let z = write-turn (flowOf work) _ _ _ (busy-below (c .drives)) (write-turned _ q) in
-      leaves (writes 5 byte) c _ _ refl (gave byte false (by-write refl) work q (z .0) (z .1))
+      leaves (writes 5 byte) c _ _ refl (gave-byte byte false (by-write refl) work q (z .0) (z .1))
   offered (Sensing unit) q = wrong-turn 0x10 2 _ (busy-below (c .drives)) (inl (omega arith)) (write-turned _ q)
   offered (Answering loud) q = wrong-turn 0xD0 2 _ (busy-below (c .drives)) (inr (omega arith)) (write-turned _ q)
 
@@ -437,7 +437,7 @@ take-rule tc c =
     rw (dma-read-is tc c) (by-test (drqOf c && phaseToHost (c .phase)) (Ruled (takes tc) c) _ _
     (λ t. let (line, to) = both (drqOf c) (phaseToHost (c .phase)) t in
     let (work, p, asks) = drq-works c line in
-    leaves (takes tc) c _ _ refl (took tc (by-cycle tc refl) work p (sym (ap phaseToHost p) ∙ to) asks))
+    leaves (takes tc) c _ _ refl (took-byte tc (by-cycle tc refl) work p (sym (ap phaseToHost p) ∙ to) asks))
     (λ _. same (takes tc) c _ (refuses _)))
 
 give-rule : (byte : ℕ) (tc : Bool) (c : Controller) → Ruled (gives byte tc) c (dmaWriteOf byte tc c)
@@ -446,7 +446,7 @@ give-rule byte tc c =
     rw (dma-write-is byte tc c) (by-test (drqOf c && phaseFromHost (c .phase)) (Ruled (gives byte tc) c) _ _
     (λ t. let (line, from) = both (drqOf c) (phaseFromHost (c .phase)) t in
     let (work, p, asks) = drq-works c line in
-    leaves (gives byte tc) c _ _ refl (gave byte tc (by-dma tc refl) work p (sym (ap phaseFromHost p) ∙ from) asks))
+    leaves (gives byte tc) c _ _ refl (gave-byte byte tc (by-dma tc refl) work p (sym (ap phaseFromHost p) ∙ from) asks))
     (λ _. same (gives byte tc) c _ (refuses _)))
 
 -- the registers

@@ -152,10 +152,10 @@ pub data Rest (call : Call) (c : Controller) (drives : List Drive) : Reply → R
       → (n .spec1 ≡ 0) ⊎ (n .spec1 ≡ c .registers .spec1) → ((k : ℕ) → k < 4 → driveAt k drives .motion ≡ Still)
       → Rest call c drives reply n emptied noBytes Idle
   -- a byte of a transfer
-  took : (tc : Bool) → Takes call tc → (work : Work) → c .phase ≡ Working work → toHost (flowOf work) ≡ true
+  took-byte : (tc : Bool) → Takes call tc → (work : Work) → c .phase ≡ Working work → toHost (flowOf work) ≡ true
       → c .fifo .asks ≡ true
       → Rest call c drives (Byte (handedOf (c .fifo))) (c .registers) (takenOf tc (c .fifo)) (c .bytes) (c .phase)
-  gave : (byte : ℕ) (tc : Bool) → Gives call byte tc → (work : Work) → c .phase ≡ Working work
+  gave-byte : (byte : ℕ) (tc : Bool) → Gives call byte tc → (work : Work) → c .phase ≡ Working work
       → fromHost (flowOf work) ≡ true → c .fifo .asks ≡ true
       → Rest call c drives Done (c .registers) (givenOf (c .registers .efifo) (tc && phaseHears (c .phase)) byte (c .fifo))
       (c .bytes) (c .phase)

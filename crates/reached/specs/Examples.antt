@@ -1,5 +1,5 @@
 -- 01 Example 8, 01 Example 9, and document 01's port log, as runs of calls on the definitions. The proofs are in
--- proofs/FdcExamples.antt.
+-- proofs/Examples.antt.
 -- Assumes nothing.
 use Prim.Native.Nat.{ℕ}
 use mathlib.Core.Bool.{Bool, true, false}

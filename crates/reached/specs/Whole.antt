@@ -52,7 +52,7 @@ takenScene tc s =
       got = valueOf (dmaRead tc (s .box) .reply) ∷ s .got;
     }
 
--- n ticks, a byte takenScene after each; TC with the last of them, or with none
+-- n ticks, a byte taken after each; TC with the last of them, or with none
 abbrev pub readOut : Bool → ℕ → Scene → Scene
 readOut tc zero s = s
 readOut tc (suc n) s = readOut tc n (takenScene (tc && eqb n 0) (tickedScene s))

@@ -6,7 +6,7 @@ use mathlib.Core.Bool.{false, false≢true}
 use mathlib.Core.List.{[], _∷_, _++_}
 use mathlib.Core.Path.{_≡_, refl, ap}
 use Rattle.chip.specs.Fifo.{emptied}
-use Rattle.engine.specs.First as First
+use Rattle.engine.specs.First.{passWrites}
 use Rattle.sectors.specs.declared.order.Pass.{Pass}
 use Rattle.reached.specs.Examples.{command, readied}
 use Rattle.reached.specs.Runs.{writes}
@@ -78,7 +78,7 @@ answer-runs = record {
   two-out =
       reads-out .any sensed false 2 (omega arith)
       (reads-out .reached-any sensed (real-box 0 (readied 0x0C ++ command (0x08 ∷ [])) refl) refl .0);
-  stores-not = λ e. false≢true (ap (λ (p : Pass). First.passWrites p) e);
+  stores-not = λ e. false≢true (ap (λ (p : Pass). passWrites p) e);
   suited = refl;
   stores = refl;
   locked = (_, (refl, refl));

@@ -39,7 +39,7 @@ use Rattle.runs.proofs.Tests.{allOff, off-prompt}
 use Rattle.demands.specs.EndsInTime.{boundOf}
 use Rattle.demands.specs.History.{some-of, History, noHistory, historyOf}
 use Rattle.demands.specs.PowerCut.{Writes, headOf}
-use Rattle.demands.specs.Work.{Real, Its, Alone, Ends}
+use Rattle.demands.specs.Work.{Real, Its, Alone, EndsWith}
 use Rattle.runs.proofs.CutExamples.{cut-examples}
 use Rattle.demands.proofs.DataErrorLaws.{data-error, data-error-in-time}
 use Rattle.demands.proofs.InTimeLaws.{prompt-in-time}
@@ -131,7 +131,7 @@ all-off = ap (λ (d : Data). d .off) read-goes
 ended : Real (writer true) → Writes (writer true) ordered written sectorOne → Its wrote (writer true)
     → Alone 0 (sample 2) wrote (writer true)
     → historyOf wrote (writer true) noHistory .begun ≡ some-of 274 (take 10 (drop 256 full)) → Spins 0 readCalls reader
-    → Alone 0 leftImage readCalls reader → Ends DataErrorOrLate readCalls reader
+    → Alone 0 leftImage readCalls reader → EndsWith DataErrorOrLate readCalls reader
 ended real accepted its alone begun spins alone′ =
     data-error (writer true) real ordered written sectorOne accepted (sample 2) (disk 1 1 2 1) sample-sound
     wrote its alone 274 _ begun

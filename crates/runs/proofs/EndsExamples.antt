@@ -34,7 +34,7 @@ use Rattle.reached.specs.Moves.{AllCalm, tickCount}
 use Rattle.fdc.specs.Record.{driveAt}
 use Rattle.reached.specs.Runs.{Call, writes, gives, ticks, after}
 use Rattle.demands.specs.EndsInTime.{boundOf, Completes, byteNo}
-use Rattle.demands.specs.Work.{AllOfBytes, Real, atWork, imageBy, Alone, Ends, Anyhow}
+use Rattle.demands.specs.Work.{AllOfBytes, Real, atWork, imageBy, Alone, EndsWith, Anyhow}
 use Rattle.demands.proofs.EndsLaws.{ends-in-time, ends-in-one, senses-in-one}
 use Rattle.demands.proofs.StepsLaws.{seeks-on-time, recalibrates-on-time}
 use Rattle.runs.proofs.Open.{allOpen}
@@ -176,22 +176,22 @@ met = record {
 
 -- so they are over within the bound's 1,312 ticks: a Read, a Write, a Read ID, a Format
 ends : (bytes : List ℕ) → allBelow bytes ≡ true → (job : Job) → given bytes .phase ≡ Starting (ordered job)
-    → Ends Anyhow (hosted 1312 small (given bytes)) (given bytes)
+    → EndsWith Anyhow (hosted 1312 small (given bytes)) (given bytes)
 ends bytes h job e =
     ends-in-time (given bytes) (given-real bytes h) (ordered job) e small (disk 1 1 1 1) (met .disk-there)
     (hosted 1312 small (given bytes)) (hosted-alone 1312 small (given bytes))
     (omega (arith, met .bound, hosted-ticks 1312 small (given bytes)))
 
-pub read-ends : Ends Anyhow (hosted 1312 small (given readBytes)) (given readBytes)
+pub read-ends : EndsWith Anyhow (hosted 1312 small (given readBytes)) (given readBytes)
 read-ends = ends readBytes refl (moves Read) (met .read-accepted)
 
-pub write-ends : Ends Anyhow (hosted 1312 small (given writeBytes)) (given writeBytes)
+pub write-ends : EndsWith Anyhow (hosted 1312 small (given writeBytes)) (given writeBytes)
 write-ends = ends writeBytes refl (moves Write) (met .write-accepted)
 
-pub id-ends : Ends Anyhow (hosted 1312 small (given idBytes)) (given idBytes)
+pub id-ends : EndsWith Anyhow (hosted 1312 small (given idBytes)) (given idBytes)
 id-ends = ends idBytes refl Identify (met .id-accepted)
 
-pub format-ends : Ends Anyhow (hosted 1312 small (given formatBytes)) (given formatBytes)
+pub format-ends : EndsWith Anyhow (hosted 1312 small (given formatBytes)) (given formatBytes)
 format-ends = ends formatBytes refl (Format (record { n = 1; sc = 1; fill = 0xE5 })) (met .format-accepted)
 
 -- 01 Example 9: a Read on an empty drive, and 01 Example 8: Sense Drive, each over at the next tick

@@ -17,7 +17,7 @@ use Rattle.demands.specs.EndsInTime.{boundOf}
 use Rattle.demands.specs.InTime.{Transfers}
 use Rattle.demands.specs.NotFound.{some, hasId, otherBelow, otherFf, Missing, Misses}
 use Rattle.demands.specs.PowerCut.{Stands, headOf}
-use Rattle.demands.specs.Work.{Alone, Ends}
+use Rattle.demands.specs.Work.{Alone, EndsWith}
 use Rattle.demands.proofs.NotFoundLaws.{not-found}
 use Rattle.runs.specs.Host.{idle}
 use Rattle.runs.specs.NotFoundRuns.{soughtId, seeking, strange, absent, NotFoundRun}
@@ -79,7 +79,7 @@ met : (some (hasId (disk 1 1 2 1) strange 0 0) 2 ≡ true) × (some (otherBelow 
 unfolding offsetOf trackAt trackLength sizeOf
 met = (refl, refl, refl)
 
-ends : Ends (Misses (absent .order) soughtId true true true) (callsOf absent) (askedBy absent)
+ends : EndsWith (Misses (absent .order) soughtId true true true) (callsOf absent) (askedBy absent)
 ends =
     rw (head, met .0, met .1, met .2) at
     (not-found (askedBy absent) (real-asked absent refl) (absent .order) seeking soughtId accepts strange (disk 1 1 2 1)

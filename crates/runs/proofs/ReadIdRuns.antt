@@ -19,8 +19,8 @@ use Rattle.fdc.specs.Registers.{motorIn}
 use Rattle.demands.specs.DataError.{Spins}
 use Rattle.demands.specs.EndsInTime.{boundOf}
 use Rattle.demands.specs.PowerCut.{Counts, headOf}
-use Rattle.demands.specs.ReadIdGives.{Identifies, FirstId, NoId, Gives}
-use Rattle.demands.specs.Work.{Alone, Ends}
+use Rattle.demands.specs.ReadIdGives.{Identifies, FirstId, NoIdThere, Gives}
+use Rattle.demands.specs.Work.{Alone, EndsWith}
 use Rattle.answers.specs.Results.{zeros}
 use Rattle.demands.proofs.ReadIdLaws.{read-id-gives, read-id-none}
 use Rattle.runs.specs.Host.{idle, double}
@@ -58,7 +58,7 @@ module _ (img : List ℕ) where
   enough = rw (handing-ticks 1 (idle 1980) (askedBy x) img) (omega arith)
 
   read-id-run : (normal : Bool) (st1 : ℕ) (id : Id) → diskIn img ≡ Present (disk 1 1 2 1)
-      → Ends (Gives (x .order) normal st1 id) (callsOf x) (askedBy x) → ReadIdRun x normal st1 id
+      → EndsWith (Gives (x .order) normal st1 id) (callsOf x) (askedBy x) → ReadIdRun x normal st1 id
   read-id-run normal st1 id mounted ends =
       record {
         real = real-asked x refl;
@@ -101,7 +101,7 @@ second-id = refl
 first : FirstId (disk 1 1 2 1) (double 0) (headOf (second .order) (askedBy second)) 0 1
 first = rw (head (double 0)) second-first
 
-none : NoId (disk 1 1 2 1) (set (double 0) 274 0) (headOf (neitherId .order) (askedBy neitherId)) 0
+none : NoIdThere (disk 1 1 2 1) (set (double 0) 274 0) (headOf (neitherId .order) (askedBy neitherId)) 0
 none =
     rw (head (set (double 0) 274 0))
     (record { on-disk = omega arith; on-cylinder = omega arith; none = neither-none })
@@ -111,7 +111,7 @@ id-is = rw (head (double 0)) second-id
 
 pub read-id-runs : ReadIdRuns
 read-id-runs =
-    let found : Ends (Gives (second .order) true 0x00 (chrnOf 0 0 2)) (callsOf second) (askedBy second) =
+    let found : EndsWith (Gives (second .order) true 0x00 (chrnOf 0 0 2)) (callsOf second) (askedBy second) =
     rw id-is at
     (read-id-gives (askedBy second) (real-asked second refl) (second .order) (accepts (double 0)) (double 0)
     (disk 1 1 2 1) (mounted .0) 1 first (callsOf second) (spins (double 0)) (alone (double 0)) (enough (double 0))) in

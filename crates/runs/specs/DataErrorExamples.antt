@@ -25,7 +25,7 @@ use Rattle.demands.specs.EndsInTime.{boundOf}
 use Rattle.demands.specs.History.{some-of, noHistory, historyOf}
 use Rattle.demands.specs.InTime.{Prompt}
 use Rattle.demands.specs.PowerCut.{Writes}
-use Rattle.demands.specs.Work.{Real, Its, Alone, imageLeft, Ends}
+use Rattle.demands.specs.Work.{Real, Its, Alone, imageLeft, EndsWith}
 
 -- the write's calls
 abbrev pub wrote : List Call
@@ -75,10 +75,10 @@ pub record DataErrorExample : Type 0 where
   pub alone-too : Alone 0 leftImage readCalls reader
   pub enough : boundOf (disk 1 1 2 1) ≤ tickCount readCalls
   -- so it ends so
-  pub ends : Ends DataErrorOrLate readCalls reader
+  pub ends : EndsWith DataErrorOrLate readCalls reader
   -- and served so it is the data error: the tests, two looks, 256 bytes, and the look that finds the FIFO empty
   pub result :
       runCalls (taking 260 reader leftImage) reader .bytes .results ≡ 0x40 ∷ 0x20 ∷ 0x20 ∷ 0 ∷ 0 ∷ 2 ∷ 1 ∷ []
   -- each tick of it finds the request off; so `DataErrorInTime` says that too, of every such host
   pub prompt : Prompt readCalls reader
-  pub ends-exactly : Ends (DataErrorAt readOrder sectorTwo read written) readCalls reader
+  pub ends-exactly : EndsWith (DataErrorAt readOrder sectorTwo read written) readCalls reader

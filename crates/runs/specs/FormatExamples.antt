@@ -1,4 +1,4 @@
--- A whole Format, call by call: its premises, its result and the image formatLeft.
+-- A whole Format, call by call: its premises, its result and the image left.
 -- Assumes nothing.
 use Prim.Native.Nat.{ℕ}
 use mathlib.Core.Bool.{false}

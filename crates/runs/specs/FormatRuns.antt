@@ -1,5 +1,5 @@
 -- The Format of FormatExamples, SC 1 on a track of two slots, meets all premises of `FormatServed`, `FormatSucceeds`,
--- `FormatNeverLate` and `FormatScript` (01 Format): it is in time, ends with IC 00, and the image formatLeft is its whole
+-- `FormatNeverLate` and `FormatScript` (01 Format): it is in time, ends with IC 00, and the image left is its whole
 -- script applied.
 -- Assumes nothing.
 use Prim.Native.Nat.{ℕ, _≤_}
@@ -17,7 +17,7 @@ use Rattle.demands.specs.FormatSucceeds.{ServedUpTo, Formatted}
 use Rattle.demands.specs.History.{noHistory}
 use Rattle.demands.specs.InTime.{InTime}
 use Rattle.demands.specs.PowerCut.{headOf}
-use Rattle.demands.specs.Work.{Alone, Ends}
+use Rattle.demands.specs.Work.{Alone, EndsWith}
 use Rattle.runs.specs.FormatExamples.{one, formatLeft}
 use Rattle.runs.specs.Host.{double}
 use Rattle.runs.specs.PromptRuns.{longer}
@@ -46,7 +46,7 @@ pub record FormatRuns : Type 0 where
   pub enough : boundOf (disk 1 1 2 1) ≤ tickCount (callsOf longOne)
   -- so it is in time, and succeeds
   pub in-time : InTime (callsOf longOne) (askedBy one)
-  pub success : Ends (Formatted (one .order) plan 0) (callsOf longOne) (askedBy one)
+  pub success : EndsWith (Formatted (one .order) plan 0) (callsOf longOne) (askedBy one)
   -- what `FormatNeverLate` asks for beside the run of FormatExamples
   pub never-late : InTime (callsOf one) (askedBy one)
   -- 6 + 256 stores for the slot, one for the other's mark

@@ -38,7 +38,7 @@ pastEotEnd =
     waiting (0x40 ∷ 0x80 ∷ 0x00 ∷ 1 ∷ 0 ∷ 1 ∷ 1 ∷ []) false (contents 1 0x11) [] no-one
 
 -- FIFO on with FIFOTHR 15, DMA, drive 1, cylinder 1, MT and SK: the sector of side 0 is deleted and skipped; of that
--- of side 1 five bytes are takenCalls, TC with the last
+-- of side 1 five bytes are taken, TC with the last
 abbrev pub turning : WholeGiven
 turning =
     record {

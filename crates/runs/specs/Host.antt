@@ -24,7 +24,7 @@ abbrev pub idle : ℕ → List Call
 idle zero = []
 idle (suc n) = bare ∷ idle n
 
--- so many bytes takenCalls, by DMA and by port 5
+-- so many bytes taken, by DMA and by port 5
 abbrev pub takenCalls : ℕ → List Call
 takenCalls zero = []
 takenCalls (suc n) = takes false ∷ takenCalls n

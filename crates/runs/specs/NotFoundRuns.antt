@@ -18,7 +18,7 @@ use Rattle.demands.specs.EndsInTime.{boundOf}
 use Rattle.demands.specs.InTime.{Transfers}
 use Rattle.demands.specs.NotFound.{Missing, Misses}
 use Rattle.demands.specs.PowerCut.{headOf}
-use Rattle.demands.specs.Work.{Real, Alone, Ends}
+use Rattle.demands.specs.Work.{Real, Alone, EndsWith}
 use Rattle.runs.specs.Host.{orderOf, idle, double}
 use Rattle.runs.specs.Whole.{WholeGiven, askedBy, callsOf}
 
@@ -56,4 +56,4 @@ pub record NotFoundRun : Type 0 where
   pub spins : Spins 1 (callsOf absent) (askedBy absent)
   pub alone : Alone 1 strange (callsOf absent) (askedBy absent)
   pub enough : boundOf (disk 1 1 2 1) ≤ tickCount (callsOf absent)
-  pub ends : Ends (Misses (absent .order) soughtId true true true) (callsOf absent) (askedBy absent)
+  pub ends : EndsWith (Misses (absent .order) soughtId true true true) (callsOf absent) (askedBy absent)

@@ -16,8 +16,8 @@ use Rattle.reached.specs.Moves.{tickCount}
 use Rattle.demands.specs.DataError.{Spins}
 use Rattle.demands.specs.EndsInTime.{boundOf}
 use Rattle.demands.specs.PowerCut.{headOf}
-use Rattle.demands.specs.ReadIdGives.{Identifies, FirstId, NoId, Gives}
-use Rattle.demands.specs.Work.{Real, Alone, Ends}
+use Rattle.demands.specs.ReadIdGives.{Identifies, FirstId, NoIdThere, Gives}
+use Rattle.demands.specs.Work.{Real, Alone, EndsWith}
 use Rattle.answers.specs.Results.{zeros}
 use Rattle.runs.specs.Host.{idle, double}
 use Rattle.runs.specs.Whole.{WholeGiven, askedBy, callsOf}
@@ -53,10 +53,10 @@ pub record ReadIdRun (x : WholeGiven) (normal : Bool) (st1 : ℕ) (id : Id) : Ty
   pub spins : Spins (x .order .drive) (callsOf x) (askedBy x)
   pub alone : Alone (x .order .drive) (x .img) (callsOf x) (askedBy x)
   pub enough : boundOf (x .disk) ≤ tickCount (callsOf x)
-  pub ends : Ends (Gives (x .order) normal st1 id) (callsOf x) (askedBy x)
+  pub ends : EndsWith (Gives (x .order) normal st1 id) (callsOf x) (askedBy x)
 
 pub record ReadIdRuns : Type 0 where
   pub first : FirstId (disk 1 1 2 1) (double 0) (headOf (second .order) (askedBy second)) 0 1
   pub given : ReadIdRun second true 0x00 (chrnOf 0 0 2)
-  pub none : NoId (disk 1 1 2 1) (set (double 0) 274 0) (headOf (neitherId .order) (askedBy neitherId)) 0
+  pub none : NoIdThere (disk 1 1 2 1) (set (double 0) 274 0) (headOf (neitherId .order) (askedBy neitherId)) 0
   pub nothing : ReadIdRun neitherId false 0x01 zeros

@@ -31,7 +31,7 @@ abbrev pub rowReading : ℕ → List ℕ → List Call
 rowReading zero img = []
 rowReading (suc n) img = ticks img [] ∷ takes false ∷ rowReading n img
 
--- and with a byte rowGiven before each
+-- and with a byte given before each
 abbrev pub rowWriting : ℕ → List ℕ → List Call
 rowWriting zero img = []
 rowWriting (suc n) img = gives 0xA5 false ∷ ticks img [] ∷ rowWriting n img

@@ -7,7 +7,7 @@ use mathlib.Core.List.{List, _++_}
 use Rattle.reached.specs.Runs.{Call}
 use Rattle.demands.specs.PowerCut.{Aim}
 use Rattle.demands.specs.Succeeds.{Success, PastEot}
-use Rattle.demands.specs.Work.{Ends}
+use Rattle.demands.specs.Work.{EndsWith}
 use Rattle.runs.specs.CutExamples.{writer, written, sectorOne, ordered, cutCalls, down, full}
 
 abbrev pub fromOne : Aim
@@ -21,5 +21,5 @@ abbrev pub bothSectors : List Call
 bothSectors = cutCalls false (full ++ down 3) 1980
 
 pub record SucceedsExamples : Type 0 where
-  pub by-dma : Ends (Success ordered written fromOne 0) fiveBytes (writer true)
-  pub by-port : Ends (PastEot ordered written fromOne 1) bothSectors (writer false)
+  pub by-dma : EndsWith (Success ordered written fromOne 0) fiveBytes (writer true)
+  pub by-port : EndsWith (PastEot ordered written fromOne 1) bothSectors (writer false)

@@ -8,7 +8,7 @@ use Rattle.demands.specs.History.{noHistory}
 use Rattle.demands.specs.PowerCut.{aimNo, headOf}
 use Rattle.demands.specs.ReadSucceeds.{AsTaken, ReadTells, AllGood, UntoldRead}
 use Rattle.demands.specs.Succeeds.{Writable, AllThere, Fill, WriteTells, Success, LastOne, PastEot}
-use Rattle.demands.specs.Work.{Ends}
+use Rattle.demands.specs.Work.{EndsWith}
 use Rattle.runs.specs.AckExamples.{writing}
 use Rattle.runs.specs.HandedExamples.{reading, pastEot}
 use Rattle.runs.specs.Host.{double}
@@ -38,9 +38,9 @@ pub record SuccessRuns : Type 0 where
   pub read-tells : ReadTells 260 (callsOf longRead) (askedBy back) untaken
   -- so both end with IC 00
   pub write-success :
-      Ends (Success (wrote .order) (writing false false 2) fromOne 1) (callsOf longWrite) (askedBy wrote)
+      EndsWith (Success (wrote .order) (writing false false 2) fromOne 1) (callsOf longWrite) (askedBy wrote)
   pub read-success :
-      Ends (Success (back .order) (reading false false false 2) fromOne 1) (callsOf longRead) (askedBy back)
+      EndsWith (Success (back .order) (reading false false false 2) fromOne 1) (callsOf longRead) (askedBy back)
   -- without TC: sector 1 at EOT 1
   pub eot-long : LongRun longEot
   pub eot-good :
@@ -49,4 +49,4 @@ pub record SuccessRuns : Type 0 where
   pub eot-last : LastOne (reading false false false 1) (aimNo (reading false false false 1) fromOne 0)
   pub eot-untold : AsTaken UntoldRead (callsOf longEot) (askedBy pastEot) untaken
   pub reaches-eot :
-      Ends (PastEot (pastEot .order) (reading false false false 1) fromOne 0) (callsOf longEot) (askedBy pastEot)
+      EndsWith (PastEot (pastEot .order) (reading false false false 1) fromOne 0) (callsOf longEot) (askedBy pastEot)
