@@ -63,7 +63,7 @@ static void plan_service(struct host *h, unsigned sector, unsigned sectors)
     uint32_t k = below(100);
     h->moved = 0;
     h->sector = sector;
-    h->pause = chance(880) ? 0 : chance(300) ? 63 : between(chance(600) ? 40 : 1, 63);
+    h->pause = chance(820) ? 0 : chance(300) ? 63 : between(chance(700) ? 40 : 1, 63);
     h->serve = k < 6 ? between(500, 990) : k < 8 ? 0 : 1000;
     h->stops = 1u << 30;
     if (k >= 87) /* nothing more from somewhere on, or when a sector's last bytes are in the FIFO of a read */
@@ -76,7 +76,7 @@ static void plan_service(struct host *h, unsigned sector, unsigned sectors)
                : k < 70 ? sector + between(1, 20)
                         : 0;
     h->trickle = h->pause > 0 && chance(250);
-    if (h->pause > 0 && chance(500)) /* several sectors, each with its pause */
+    if (h->pause > 0 && chance(700)) /* several sectors, each with its pause */
         h->tc_at = 0;
 }
 
