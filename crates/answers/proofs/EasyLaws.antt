@@ -41,7 +41,8 @@ use Rattle.fdc.specs.Commands.{answeredOf}
 use Rattle.fdc.specs.Record.{withFifo, withPhase}
 use Rattle.reached.specs.Runs.{ticks, after}
 use Rattle.fdc.specs.Ticks.{settledOf, decidedOf, imageAfter}
-use Rattle.answers.specs.EasyToGetWrong.{resultByte, Seeks, seeks, EasyNext, EasyToGetWrong}
+use Rattle.demands.specs.Acknowledged.{resultByte}
+use Rattle.answers.specs.EasyToGetWrong.{Seeks, seeks, EasyNext, EasyToGetWrong}
 use Rattle.answers.specs.Results.{During, AtNext, headAt, nextId}
 use Rattle.demands.proofs.CallLaws.{after-tick}
 use Rattle.answers.proofs.ResetTableLaws.{reset-table}

@@ -16,12 +16,9 @@ use Rattle.fdc.specs.declared.record.Phase.the-variants.{Working, Answering}
 use Rattle.fdc.specs.Record.{driveAt}
 use Rattle.reached.specs.Runs.{ticks, writes, after}
 use Rattle.fdc.specs.Ticks.{imageAfter}
+use Rattle.demands.specs.Acknowledged.{resultByte}
 use Rattle.answers.specs.Registers.{Undamaged, Free}
 use Rattle.answers.specs.Results.{During, AtNext, headAt}
-
--- byte k of the result
-abbrev pub resultByte : ℕ → Controller → ℕ
-resultByte k e = getD (e .bytes .results) k 0
 
 -- R of the sector in hand
 pub data Seeks (e : Controller) (r : ℕ) : Type 0 where

@@ -60,7 +60,8 @@ use Rattle.sectors.specs.Track.{hasTrack, staysOf, nextSlot, markPlace, dataPla
 use Rattle.sectors.specs.Write.{writtenMark}
 use Rattle.demands.specs.EndsInTime.{boundOf}
 use Rattle.demands.specs.Quiet.{ProperJob}
-use Rattle.demands.proofs.CountLaws.{bit, bit-le, count, count-le, count-ext, count-less, count-pos, near, near-self, near-next, near-gone}
+use Rattle.fdc.specs.Registers.{bit}
+use Rattle.demands.proofs.CountLaws.{bit-le, count, count-le, count-ext, count-less, count-pos, near, near-self, near-next, near-gone}
 use Rattle.demands.proofs.TickRules.{marked, hits, endsWith, NextRule, stops, turns, steps, Rule, notFound, noData, noSide, late, misses, passes, toWrite, toRead, skips, turned-over, waits, begins, puts, pads, finishes, moves, moves-last, drains, data-error, other-kind, drained, transfer-rule}
 
 -- 01 End: one search with what it finds, at most

@@ -10,10 +10,7 @@ use lib.Dec.{leb}
 use borrow.Author.Tests.{leb-true, le-leb, lt-leb}
 use Rattle.chip.specs.Next.{onByOne}
 use Rattle.image.proofs.TestLaws.{le-or-lt}
-
-abbrev pub bit : Bool → ℕ
-bit true = 1
-bit false = 0
+use Rattle.fdc.specs.Registers.{bit}
 
 unfoldable pub count : (ℕ → Bool) → ℕ → ℕ
 count f zero = 0
