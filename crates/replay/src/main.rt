@@ -4,30 +4,23 @@
 // counts calls, refusals and differences. `t N` is one call here: its line is the last tick's. What the ticks stored is
 // then written back to the files, only where bytes changed, wherever the log ends. A malformed line ends the run: what
 // was played before it is kept. What a line says is decided in `script`, what a call does in `player` and `fdc`.
-mod files;
+mod drives;
 mod run;
 
-use files::Image;
-use files::image_of;
-use files::kept;
-use files::twice;
+use drives::image_in;
+use drives::put_back;
+use drives::twice;
+use files::fault::program_fault;
+use files::image::Image;
+use files::image::image_buffer;
 use run::play_lines;
-ghost use mathlib.Core.Path.{_≡_};
-ghost use lib.ListN.{length};
-
-// The most bytes of an image, 2 MiB.
-fn image_buffer() -> [u8; 2097152]
-    ensures { λ r. ⌜ 2097152 ≡ length r ⌝ }
-{
-    [0; 2097152]
-}
 
 fn play(first: Image, second: Image, a: &mut [u8], b: &mut [u8]) {
     let _written = io::write_all(1, b"line value int drq\n");
     let mut buf = io::buffer();
     play_lines(&mut buf, a, b);
-    kept(1, first.fd, a);
-    kept(2, second.fd, b);
+    put_back(1, first.fd, a);
+    put_back(2, second.fd, b);
 }
 
 // The images are as long as their files.
@@ -44,15 +37,15 @@ fn play_within(first: Image, second: Image, a: &mut [u8], b: &mut [u8]) {
 // Nothing is played where an image cannot be had.
 fn play_files(a: &mut [u8], b: &mut [u8]) {
     if 3 < os::arg_count() {
-        let _written = io::write_all(2, b"replay: at most two images\n");
+        program_fault(b"replay", b"at most two images");
         return;
     }
     if twice() {
-        let _written = io::write_all(2, b"replay: the same image is named twice\n");
+        program_fault(b"replay", b"the same image is named twice");
         return;
     }
-    let first = image_of(1, a);
-    let second = image_of(2, b);
+    let first = image_in(1, a);
+    let second = image_in(2, b);
     if first.good & second.good {
         play_within(first, second, a, b);
     }

@@ -1,8 +1,8 @@
--- `replay::files::keep_part` is safe and ends: the turns left are its measure. Nothing has to hold from turn to turn.
+-- `files::keep::keep_part` is safe and ends: the turns left are its measure. Nothing has to hold from turn to turn.
 -- Assumes nothing.
 use borrow.Author.Needs.{needs}
-use Rattle.replay.proofs.files.keep_part.Statement.{statement}
-use Rattle.replay.proofs.files.keep_part.Tie as tie
+use Rattle.files.proofs.keep.keep_part.Statement.{statement}
+use Rattle.files.proofs.keep.keep_part.Tie as tie
 
 abbrev Inv-loop : tie.InvT-loop
 Inv-loop fd at old new turns₀ i₀ turns i = Unit {0}

@@ -1,10 +1,10 @@
--- `replay::files::keep_all` is safe and ends: what is left of the image is its measure.
+-- `files::keep::keep_all` is safe and ends: what is left of the image is its measure.
 -- Assumes nothing.
 use Prim.Native.Nat.{_≤_, _-_}
 use lib.ListN.{length}
 use borrow.Author.Needs.{needs}
-use Rattle.replay.proofs.files.keep_all.Statement.{statement}
-use Rattle.replay.proofs.files.keep_all.Tie as tie
+use Rattle.files.proofs.keep.keep_all.Statement.{statement}
+use Rattle.files.proofs.keep.keep_all.Tie as tie
 
 abbrev Inv-loop : tie.InvT-loop
 Inv-loop fd image at₀ at = at ≤ length image
