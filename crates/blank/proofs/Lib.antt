@@ -1,0 +1,5 @@
+pub mod Examples
+pub mod ListLaws
+pub mod PartLaws
+pub mod RangeLaws
+pub mod SoundLaws
