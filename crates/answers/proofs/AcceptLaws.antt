@@ -51,7 +51,7 @@ use Rattle.answers.proofs.RefusalLaws.{busy-le}
 use Rattle.answers.proofs.RegisterLaws.{undamaged-valid, real-undamaged, free-msr}
 
 -- the record while a command is gathered
-abbrev heldOf : Controller → Phase → List ℕ → ℕ → Controller
+abbrev pub heldOf : Controller → Phase → List ℕ → ℕ → Controller
 heldOf c p l n =
     record {
       registers = c .registers;
@@ -61,7 +61,7 @@ heldOf c p l n =
       phase = p;
     }
 
-abbrev setAll : List ℕ → ℕ → List ℕ → List ℕ
+abbrev pub setAll : List ℕ → ℕ → List ℕ → List ℕ
 setAll l n [] = l
 setAll l n (b ∷ bs) = setAll (set l n b) (n + 1) bs
 
@@ -164,6 +164,18 @@ module _ (c : Controller) (v : validOf c ≡ true) (f : Free c) (entry : Entry) 
       (next-byte l n byte (omega arith) ∙ goes-more (set l n byte) (n + 1) (omega arith))
       ∙ gathers rest next (n + 1) (set l n byte) (omega arith)
 
+  -- while bytes are due it gathers
+  gathers-on : (rest : List ℕ) (byte n : ℕ) (l : List ℕ) → n + suc (length rest) < entry .bytes
+      → afterBytes (byte ∷ rest) (in-hand l n) .phase ≡ Gathering entry
+  unfolding runCalls
+  gathers-on [] byte n l e =
+      ap (λ (x : Controller). x .phase)
+      (next-byte l n byte (omega arith) ∙ goes-more (set l n byte) (n + 1) (omega arith))
+  gathers-on (next ∷ rest) byte n l e =
+      ap (λ (x : Controller). afterBytes (next ∷ rest) x .phase)
+      (next-byte l n byte (omega arith) ∙ goes-more (set l n byte) (n + 1) (omega arith))
+      ∙ gathers-on rest next (n + 1) (set l n byte) (omega arith)
+
 -- a complete command runs, with its bytes in order
 module _ (c : Controller) (r : Ready c) where
   valid : validOf c ≡ true
@@ -205,11 +217,19 @@ module _ (c : Controller) (r : Ready c) where
       ap (λ (x : Controller). afterBytes (next ∷ rest) x) (first-more code (omega arith))
       ∙ gathers c valid (r .free) (entryOf code) (bytes-le (kindOf code)) rest next 1 _ (omega arith)
 
+  -- and before it is complete it gathers
+  pub gathering : (code byte : ℕ) (rest : List ℕ) → suc (suc (length rest)) < byteCount (kindOf code)
+      → afterBytes (code ∷ byte ∷ rest) c .phase ≡ Gathering (entryOf code)
+  unfolding runCalls entryOf
+  gathering code byte rest e =
+      ap (λ (x : Controller). afterBytes (byte ∷ rest) x .phase) (first-more code (omega arith))
+      ∙ gathers-on c valid (r .free) (entryOf code) (bytes-le (kindOf code)) rest byte 1 _ (omega arith)
+
   -- its record when it runs
-  abbrev whole : List ℕ → Controller
+  abbrev pub whole : List ℕ → Controller
   whole bytes = heldOf c Idle (setAll (replicate 9 0) 0 bytes) 0
 
-  completes : (code : ℕ) (rest : List ℕ) (kind : Kind) → kindOf code ≡ kind → suc (length rest) ≡ byteCount kind
+  pub completes : (code : ℕ) (rest : List ℕ) (kind : Kind) → kindOf code ≡ kind → suc (length rest) ≡ byteCount kind
       → afterBytes (code ∷ rest) c ≡ runOf kind (whole (code ∷ rest))
   completes code rest kind k e =
       complete code rest (e ∙ sym (ap byteCount k)) ∙ ap (λ (x : Kind). runOf x (whole (code ∷ rest))) k

@@ -112,7 +112,7 @@ run-busy : (e : Controller) → anyBusy (e .drives) ≡ true → runOf Version e
 unfolding runOf ranOf
 run-busy e b = rw b
 
-run-sense : (e : Controller) → runOf SenseInterrupt e ≡ sensedOf e
+pub run-sense : (e : Controller) → runOf SenseInterrupt e ≡ sensedOf e
 unfolding runOf ranOf
 run-sense e = simp and-false
 
@@ -123,7 +123,7 @@ no-report drives k e = ap not (eq-eqb (driveAt k drives .report) 0 e)
 a-report : (drives : List Drive) (k : ℕ) → (driveAt k drives .report ≡ 0 → ⊥) → reportAt k drives ≡ true
 a-report drives k n = ap not (ne-eqb (driveAt k drives .report) 0 n)
 
-lowest-is : (drives : List Drive) (k : ℕ) → k < 4 → (driveAt k drives .report ≡ 0 → ⊥)
+pub lowest-is : (drives : List Drive) (k : ℕ) → k < 4 → (driveAt k drives .report ≡ 0 → ⊥)
     → ((j : ℕ) → j < k → driveAt j drives .report ≡ 0) → reporterOf drives ≡ k
 unfolding reporterOf
 lowest-is drives zero h n f = rw (a-report drives 0 n)
@@ -139,7 +139,7 @@ lowest-is drives (suc (suc (suc zero))) h n f =
     )
 lowest-is drives (suc (suc (suc (suc k)))) h n f = absurd (omega arith)
 
-none-is : (drives : List Drive) → ((j : ℕ) → j < 4 → driveAt j drives .report ≡ 0) → reporterOf drives ≡ 4
+pub none-is : (drives : List Drive) → ((j : ℕ) → j < 4 → driveAt j drives .report ≡ 0) → reporterOf drives ≡ 4
 unfolding reporterOf
 none-is drives f =
     rw (
@@ -149,11 +149,11 @@ none-is drives f =
       no-report drives 3 (f 3 (omega arith)),
     )
 
-sense-none : (e : Controller) → reporterOf (e .drives) ≡ 4 → sensedOf e ≡ saidOf 0x80 e
+pub sense-none : (e : Controller) → reporterOf (e .drives) ≡ 4 → sensedOf e ≡ saidOf 0x80 e
 unfolding sensedOf
 sense-none e q = rw q
 
-sense-at : (e : Controller) (k : ℕ) → k < 4 → reporterOf (e .drives) ≡ k
+pub sense-at : (e : Controller) (k : ℕ) → k < 4 → reporterOf (e .drives) ≡ k
     → sensedOf e
     ≡ saidTwo (driveAt k (e .drives) .report) (driveAt k (e .drives) .pcn)
     (withDrive k (sensedDrive (driveAt k (e .drives))) e)

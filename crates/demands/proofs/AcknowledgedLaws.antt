@@ -35,7 +35,7 @@ pub acknowledged : Acknowledged Real
 acknowledged c r = acknowledged-quiet c (quiet-real c r)
 
 -- at work, or the result waits
-abbrev OnOrSaid : Controller → Type 0
+abbrev pub OnOrSaid : Controller → Type 0
 OnOrSaid c = (atWork (c .phase) ≡ true) ⊎ (c .phase ≡ Answering true)
 
 settled-said : (then : Then) (fifo : Fifo) (c : Controller) → OnOrSaid (settledOf then fifo c)
@@ -43,13 +43,13 @@ unfolding settledOf withFifo withPhase answeredOf
 settled-said (Ends verdict) fifo c = inr refl
 settled-said (Works work) fifo c = inl refl
 
-tick-said : (a b : List ℕ) (c : Controller) (drive : ℕ) (o : Step) → ruledOf a b c ≡ decidedOf drive o c
+pub tick-said : (a b : List ℕ) (c : Controller) (drive : ℕ) (o : Step) → ruledOf a b c ≡ decidedOf drive o c
     → OnOrSaid (after (ticks a b) c)
 unfolding decidedOf
 tick-said a b c drive o e =
     rw (after-tick a b c ∙ ap (λ (d : Decision). d .controller) e) (settled-said (o .then) (o .fifo) c)
 
-phase-said : (a b : List ℕ) (c : Controller) (p : Phase) → c .phase ≡ p → atWork p ≡ true → Quiet c
+pub phase-said : (a b : List ℕ) (c : Controller) (p : Phase) → c .phase ≡ p → atWork p ≡ true → Quiet c
     → OnOrSaid (after (ticks a b) c)
 phase-said a b c Idle e w q = absurd (false≢true w)
 phase-said a b c (Gathering entry) e w q = absurd (false≢true w)

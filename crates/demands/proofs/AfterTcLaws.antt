@@ -41,7 +41,7 @@ use Rattle.fdc.specs.declared.answer.Reply.the-variants.{Done, Byte, Refused}
 use Rattle.demands.specs.ReadSucceeds.{AsTaken, TellsAt}
 
 -- a record at work is quiet after each call of the command
-quiet-its : (calls : List Call) (c : Controller) → Quiet c → Its calls c → Quiet (runCalls calls c)
+pub quiet-its : (calls : List Call) (c : Controller) → Quiet c → Its calls c → Quiet (runCalls calls c)
 unfolding Its runCalls
 quiet-its [] c q i = q
 quiet-its (call ∷ calls) c q i = quiet-its calls (after call c) (quiet-after call c q (i .0)) (i .1)
@@ -86,7 +86,7 @@ flow-off : (g : Geometry) (cylinder : ℕ) (transfer : Transfer) (aim : Aim) (im
 flow-off g cylinder transfer aim img num (flows a n lo sum all) told = absurd (false≢true (sym n ∙ told))
 flow-off g cylinder transfer aim img num (ended a n none off all lo hi) told = off
 
-read-off : (g : Geometry) (cylinder : ℕ) (order : Order) (transfer : Transfer) (id : Id) (img : List ℕ)
+pub read-off : (g : Geometry) (cylinder : ℕ) (order : Order) (transfer : Transfer) (id : Id) (img : List ℕ)
     (disk : diskIn img ≡ Present g) (moves-it : order .job ≡ Move transfer id) (rd : transfer .pass ≡ Read)
     (hd : order .drive < 4) (e : Controller) (t : Taken)
     → handing.Run g cylinder order transfer id img disk moves-it rd hd e t → atWork (e .phase) ≡ true → t .told ≡ true
@@ -98,7 +98,7 @@ read-off g cylinder order transfer id img disk moves-it rd hd e t (handing.to-st
 read-off g cylinder order transfer id img disk moves-it rd hd e t (handing.at-it site task stage p u b) work told =
     flow-off g cylinder transfer _ img (b .num) (b .flow) told
 
-write-off : (g : Geometry) (cylinder : ℕ) (order : Order) (transfer : Transfer) (id : Id) (old : List ℕ)
+pub write-off : (g : Geometry) (cylinder : ℕ) (order : Order) (transfer : Transfer) (id : Id) (old : List ℕ)
     (disk : diskIn old ≡ Present g) (moves-it : order .job ≡ Move transfer id) (wr : transfer .pass ≡ Write)
     (hr : id .r < 256) (he : transfer .eot < 256) (hd : order .drive < 4) (e : Controller) (img : List ℕ) (h : History)
     → cutting.Run g cylinder order transfer id old disk moves-it wr hr he hd e img h → atWork (e .phase) ≡ true

@@ -495,7 +495,7 @@ module _ (head : ℕ) (img : List ℕ) (efifo : Bool) (fifothr : ℕ) (site : Si
       rw (e, p) (record { less = omega arith; proper = (refl, (w, (q′ .0, omega arith))) })
   rule-falls stage o (data-error sector looks verdict p b s f e) q =
       rw e (end-falls _ img head _ verdict Nothing (stage-pos img head site task stage q))
-  rule-falls stage o (other-kind sector looks verdict p b z ok os e) q =
+  rule-falls stage o (other-kind sector looks verdict p b z ok os v zc e) q =
       rw e (end-falls _ img head _ verdict Nothing (stage-pos img head site task stage q))
   rule-falls stage o (drained sector looks p b ok zc r) q =
       let q′ = rw p at q in

@@ -1,12 +1,12 @@
--- A read of its own kind that starts with a sector under the broken mark: every tick of it goes on towards that
--- sector's end, and it ends with the data error, or late (01 Search, Read).
+-- A read that its first sector stops, under a broken mark or, with SK 0, under one of the other kind: every tick of it
+-- goes on towards that sector's end, and it ends there, or late (01 Search, Read).
 -- Assumes nothing.
 use Prim.Native.Nat.{ℕ, _+_, _≤_, _<_}
 use native.Mathlib.Omega.{arith}
-use mathlib.Core.Bool.{Bool, Bool·beq, true, false, _&&_, not, true≢false}
+use mathlib.Core.Bool.{Bool, Bool·beq, true, false, _&&_, not, cond, true≢false}
 use mathlib.Core.List.{List}
 use mathlib.Core.Logic.{_⊎_, inl, inr}
-use mathlib.Core.Path.{_≡_, sym, ap, _∙_}
+use mathlib.Core.Path.{_≡_, refl, sym, ap, _∙_}
 use lib.Dec.{eqb}
 use lib.ListN.{getD}
 use borrow.Author.Tests.{eqb-true, eq-eqb}
@@ -14,6 +14,7 @@ use Rattle.chip.specs.declared.fifo.Fifo.{Fifo}
 use Rattle.sectors.specs.declared.order.Pass.{Pass}
 use Rattle.sectors.specs.declared.order.Pass.the-variants.{Read, Write}
 use Rattle.sectors.specs.declared.order.Transfer.{Transfer}
+use Rattle.sectors.specs.declared.work.Sector.{Sector}
 use Rattle.sectors.specs.declared.work.Site.{Site}
 use Rattle.sectors.specs.declared.work.Stage.{Stage}
 use Rattle.sectors.specs.declared.work.Stage.the-variants.{Searching, Turning, Reading, Draining, Awaiting, Storing}
@@ -62,34 +63,39 @@ use Rattle.demands.proofs.TickRules.{
   drained,
 }
 
--- the command's first sector is slot t, under a broken mark, of the command's own kind or not skipped; no slot before
--- it has its address
-pub record StartsBroken (g : Geometry) (img : List ℕ) (head side t : ℕ) (kind : Bool) (transfer : Transfer) (id : Id)
+-- the mark is of the other kind
+abbrev pub differs : Bool → Transfer → Bool
+differs kind transfer = not (Bool·beq kind (transfer .deleted))
+
+-- the command's first sector is slot t, under a mark that stops it, of the command's own kind or not skipped; no slot
+-- before it has its address
+pub record StopsAt (g : Geometry) (img : List ℕ) (head side t : ℕ) (kind broken : Bool) (transfer : Transfer) (id : Id)
     : Type 0 where
   pub reads : transfer .pass ≡ Read
   pub has : Has g head side t
-  pub mark : markOf (getD img (offsetOf g head side t) 0) ≡ Data kind true
+  pub mark : markOf (getD img (offsetOf g head side t) 0) ≡ Data kind broken
+  pub stops : (broken ≡ true) ⊎ (differs kind transfer ≡ true)
   pub not-skipped : (kind ≡ transfer .deleted) ⊎ (transfer .sk ≡ false)
   pub address : idAt img (offsetOf g head side t) ≡ id
   pub size : id .n ≡ g .n
   pub first : (k : ℕ) → k < t → marked (markOf (getD img (offsetOf g head side k) 0)) ≡ true
       → idAt img (offsetOf g head side k) ≡ id → ⊥
 
+pub has-before : {g : Geometry} {cylinder side k j : ℕ} → Has g cylinder side k → j < k → Has g cylinder side j
+has-before has l =
+    record { on-disk = has .on-disk; on-cylinder = has .on-cylinder; on-track = omega (arith, has .on-track) }
+
 -- on the way to that sector's end
-abbrev pub OnStage : ℕ → Stage → Type 0
-OnStage t (Searching look) = look .slot ≤ t
-OnStage t (Turning slot) = ⊥
-OnStage t (Reading sector done) = sector .broken ≡ true
-OnStage t (Draining sector looks) = sector .broken ≡ true
-OnStage t (Awaiting slot wait) = ⊥
-OnStage t (Storing slot done) = ⊥
+abbrev pub OnStage : Bool → Bool → ℕ → Stage → Type 0
+OnStage broken other t (Searching look) = look .slot ≤ t
+OnStage broken other t (Turning slot) = ⊥
+OnStage broken other t (Reading sector done) = (sector .broken ≡ broken) × (sector .other ≡ other)
+OnStage broken other t (Draining sector looks) = (sector .broken ≡ broken) × (sector .other ≡ other)
+OnStage broken other t (Awaiting slot wait) = ⊥
+OnStage broken other t (Storing slot done) = ⊥
 
 abbrev pub siteAt : ℕ → ℕ → Geometry → Site
 siteAt drive side g = record { drive = drive; side = side; disk = g }
-
--- the mark is of the other kind
-abbrev pub differs : Bool → Transfer → Bool
-differs kind transfer = not (Bool·beq kind (transfer .deleted))
 
 -- 01 Read: other kind of mark: ST2 40 from the match on
 abbrev pub otherIn : Bool → Stage → Bool
@@ -103,20 +109,25 @@ otherIn other (Storing slot done) = false
 abbrev pub taskOn : Bool → Transfer → Id → Stage → Task
 taskOn other transfer id stage = record { transfer = transfer; id = id; other = otherIn other stage }
 
--- 40, ST1 20, ST2 20 or 60 and the sector's address; or ST1 10, since it came late
-abbrev pub EndsSo : Bool → Site → Id → Type 0 → Verdict → Type 0
-EndsSo other site id L v =
-    ((v .st0 ≡ st0Of false (site .drive) (site .side)) × (v .st1 ≡ 0x20) × (v .st2 ≡ otherBit other + 0x20)
-    × (v .id ≡ id))
+-- 01 Read: broken, in ST1 and ST2
+abbrev pub errorBit : Bool → ℕ
+errorBit broken = cond broken 0x20 0x00
+
+-- broken 40, ST1 20, ST2 20 or 60, else IC 00, ST1 00, ST2 40; the sector's address. Or ST1 10, since it came late
+abbrev pub EndsSo : Bool → Bool → Site → Id → Type 0 → Verdict → Type 0
+EndsSo broken other site id L v =
+    ((v .st0 ≡ st0Of (not broken) (site .drive) (site .side)) × (v .st1 ≡ errorBit broken)
+    × (v .st2 ≡ otherBit other + errorBit broken) × (v .id ≡ id))
     ⊎ ((v .st1 ≡ 0x10) × L)
 
 -- what a tick of it gives
-pub data Follow (other : Bool) (t : ℕ) (site : Site) (transfer : Transfer) (id : Id) (L : Type 0) (o : Step) : Type 0
-  where
-    goes : (stage : Stage) (fifo : Fifo) → OnStage t stage
-        → o ≡ movesOf stage site (taskOn other transfer id stage) fifo Nothing → Follow other t site transfer id L o
-    ends : (verdict : Verdict) → EndsSo other site id L verdict → o ≡ endsWith verdict Nothing
-        → Follow other t site transfer id L o
+pub data Follow (broken other : Bool) (t : ℕ) (site : Site) (transfer : Transfer) (id : Id) (L : Type 0) (o : Step)
+    : Type 0 where
+  goes : (stage : Stage) (fifo : Fifo) → OnStage broken other t stage
+      → o ≡ movesOf stage site (taskOn other transfer id stage) fifo Nothing
+      → Follow broken other t site transfer id L o
+  ends : (verdict : Verdict) → EndsSo broken other site id L verdict → o ≡ endsWith verdict Nothing
+      → Follow broken other t site transfer id L o
 
 abbrev idOf : ℕ → ℕ → ℕ → ℕ → Id
 idOf c h r n = record { c = c; h = h; r = r; n = n }
@@ -148,8 +159,8 @@ read≢write p e f = let z : _≡_ {A = ℕ} 0 1 = cc in omega arith
 pub mark-kind : (m : Mark) (a b c d : Bool) → m ≡ Data a b → m ≡ Data c d → (c ≡ a) × (d ≡ b)
 mark-kind m a b c d e f = (cc, cc)
 
-module _ (g : Geometry) (img : List ℕ) (head drive side t : ℕ) (kind : Bool) (transfer : Transfer) (id : Id)
-    (b : StartsBroken g img head side t kind transfer id) where
+module _ (g : Geometry) (img : List ℕ) (head drive side t : ℕ) (kind broken : Bool) (transfer : Transfer)
+    (id : Id) (b : StopsAt g img head side t kind broken transfer id) where
   hit : hits img (siteAt drive side g) head (taskOf transfer id) t ≡ true
   unfolding markPlace
   hit =
@@ -185,7 +196,7 @@ module _ (g : Geometry) (img : List ℕ) (head drive side t : ℕ) (kind : Bool)
 
   -- its mark, read where the search looks
   mark-here : (slot : ℕ) → slot ≤ t → hits img (siteAt drive side g) head (taskOf transfer id) slot ≡ true
-      → markOf (getD img (markPlace (siteAt drive side g) head slot) 0) ≡ Data kind true
+      → markOf (getD img (markPlace (siteAt drive side g) head slot) 0) ≡ Data kind broken
   unfolding markPlace
   mark-here slot l m = rw (here slot l m) (b .mark)
 
@@ -207,9 +218,18 @@ module _ (g : Geometry) (img : List ℕ) (head drive side t : ℕ) (kind : Bool)
     abbrev L : Type 0
     L = Late efifo site (taskOn other transfer id stage) fifo stage
 
-    pub follow-rule : OnStage t stage
+    -- its mark stops it
+    not-on : (sector : Sector) → OnStage broken other t (Draining sector 0) → sector .broken ≡ false
+        → sector .other ≡ false → ⊥
+    not-on sector (x, y) whole own = go (b .stops)
+      where
+        go : (broken ≡ true) ⊎ (differs kind transfer ≡ true) → ⊥
+        go (inl z) = true≢false (sym z ∙ sym x ∙ whole)
+        go (inr z) = true≢false (sym z ∙ sym y ∙ own)
+
+    pub follow-rule : OnStage broken other t stage
         → Rule head img efifo fifothr site (taskOn other transfer id stage) fifo stage o
-        → Follow other t site transfer id L o
+        → Follow broken other t site transfer id L o
     follow-rule w (notFound look verdict p m l n x y f e) =
         let u : look .slot ≤ t = rw p at w in
         absurd (omega (arith, before (look .slot) u m, b .has .on-track))
@@ -225,12 +245,13 @@ module _ (g : Geometry) (img : List ℕ) (head drive side t : ℕ) (kind : Bool)
         let u : look .slot ≤ t = rw p at w in
         absurd (omega (arith, before (look .slot) u m, b .has .on-track))
     follow-rule w (toWrite look p m k e) = absurd (read≢write (transfer .pass) (b .reads) k)
-    follow-rule w (toRead look deleted broken other′ p m k d f ns e) =
+    follow-rule w (toRead look deleted broken′ other′ p m k d f ns e) =
         let u : look .slot ≤ t = rw p at w in
         let (same, whole) = mark-kind _ _ _ _ _ (mark-here (look .slot) u m) d in
         let f′ : other′ ≡ other = rw same at f in
-        goes (Reading (record { slot = look .slot; broken = broken; other = other }) 0) fifo whole (rw (p, f′) at e)
-    follow-rule w (skips look deleted broken p m k d f z n) =
+        goes (Reading (record { slot = look .slot; broken = broken′; other = other }) 0) fifo (whole, refl)
+        (rw (p, f′) at e)
+    follow-rule w (skips look deleted broken′ p m k d f z n) =
         let u : look .slot ≤ t = rw p at w in
         absurd (no-skip deleted (mark-kind _ _ _ _ _ (mark-here (look .slot) u m) d .0) f z)
     follow-rule w (turned-over slot p e) = absurd (rw p at w)
@@ -245,10 +266,11 @@ module _ (g : Geometry) (img : List ℕ) (head drive side t : ℕ) (kind : Bool)
         goes (Draining sector 0) fifo′ (rw p at w) (rw p at e)
     follow-rule w (drains sector looks p l e) = goes (Draining sector (looks + 1)) fifo (rw p at w) (rw p at e)
     follow-rule w (data-error sector looks verdict p k y f e) =
-        ends verdict (inl (f .st0, f .st1-is, rw p at y, f .id)) e
-    follow-rule w (other-kind sector looks verdict p k z ok os e) =
-        let u : sector .broken ≡ true = rw p at w in
-        absurd (true≢false (sym u ∙ k))
-    follow-rule w (drained sector looks p k ok zc n) =
-        let u : sector .broken ≡ true = rw p at w in
-        absurd (true≢false (sym u ∙ k))
+        let u : OnStage broken other t (Draining sector looks) = rw p at w in
+        let is : broken ≡ true = sym (u .0) ∙ k in
+        ends verdict (inl (rw is (f .st0, f .st1-is, rw p at y, f .id))) e
+    follow-rule w (other-kind sector looks verdict p k z ok os v zc e) =
+        let u : OnStage broken other t (Draining sector looks) = rw p at w in
+        let is : broken ≡ false = sym (u .0) ∙ k in
+        ends verdict (inl (rw is (v .st0, z, rw p at os, v .id))) e
+    follow-rule w (drained sector looks p k ok zc n) = absurd (not-on sector (rw p at w) k ok)

@@ -1,7 +1,7 @@
 -- What a read command hands the host (specs/HandedOver), over every list of its calls: tick by tick at the engine's
 -- level, then call by call at the record.
 -- Assumes nothing.
-use Prim.Native.Nat.{ℕ, suc, _+_, _-_, _/_, _%_, _≤_, _<_}
+use Prim.Native.Nat.{ℕ, suc, _+_, _-_, _*_, _/_, _%_, _≤_, _<_}
 use native.Mathlib.Nat.{mod-eq-of-lt}
 use native.Mathlib.Omega.{arith}
 use mathlib.Core.Bool.{Bool, Bool·beq, true, false, _&&_, _||_, not, cond, or-true, true≢false, false≢true}
@@ -9,7 +9,7 @@ use mathlib.Core.List.{List, [], _∷_}
 use mathlib.Core.Logic.{_⊎_, inl, inr}
 use mathlib.Core.Path.{_≡_, refl, sym, ap, _∙_, subst}
 use lib.Dec.{eqb, ltb}
-use lib.ListN.{getD}
+use lib.ListN.{length, getD}
 use borrow.Author.Tests.{ltb-true, lt-ltb, le-ltb, eqb-true, not-false}
 use Rattle.image.proofs.DiskLaws.{present-fits}
 use Rattle.image.proofs.TestLaws.{by-test, both, le-or-lt}
@@ -65,7 +65,7 @@ use Rattle.fdc.specs.Registers.{motorIn}
 use Rattle.reached.specs.Runs.{Call, ticks, answerTo, after, runCalls}
 use Rattle.fdc.specs.Ticks.{seenOf, settledOf, decidedOf, ruledOf, tickOf, imageAfter}
 use Rattle.demands.specs.Acknowledged.{resultByte, resultId}
-use Rattle.demands.specs.HandedOver.{Taken, untaken, takenBy, takenOver, tookOne, IsGood, IsOther, Passed, was-read, was-skipped, Ways, Tells, Hands, HandedOver, HandedPlain}
+use Rattle.demands.specs.HandedOver.{Taken, untaken, takenBy, takenOver, tookOne, IsGood, IsOther, IsGoodOther, Passed, was-read, was-skipped, Ways, Tells, Hands, HandedOver, HandedPlain}
 use Rattle.demands.specs.PowerCut.{Followed, InReach, Aim, aimNo, Counts, Stands, headOf, passing}
 use Rattle.demands.specs.Work.{atWork, Its, imageBy, imageLeft, Handed, Alone, Real}
 use Rattle.demands.proofs.AddressLaws.{onward-turn, onward-stay}
@@ -99,6 +99,12 @@ own-kind true false e = absurd (true≢false e)
 own-kind false true e = absurd (true≢false e)
 own-kind false false e = refl
 
+differs-so : (a b : Bool) → not (Bool·beq a b) ≡ true → a ≡ not b
+differs-so true true e = absurd (false≢true e)
+differs-so true false e = refl
+differs-so false true e = refl
+differs-so false false e = absurd (false≢true e)
+
 other-one : (a b : Bool) → (a ≡ b → ⊥) → a ≡ not b
 other-one true true n = absurd (n refl)
 other-one true false n = refl
@@ -112,6 +118,14 @@ not-on false n = refl
 or-first : (a b : Bool) → (a || b) ≡ false → a ≡ false
 or-first true b e = absurd (true≢false e)
 or-first false b e = refl
+
+or-second : (a b : Bool) → (a ≡ true → ⊥) → (a || b) ≡ true → b ≡ true
+or-second true b n e = absurd (n refl)
+or-second false b n e = e
+
+set-bit : (a : Bool) → otherBit a ≡ 0x40 → a ≡ true
+set-bit true e = refl
+set-bit false e = absurd (omega arith)
 
 clear-bit : (a : Bool) → otherBit a ≡ 0x00 → a ≡ false
 clear-bit true e = absurd (omega arith)
@@ -260,6 +274,15 @@ module _ (g : Geometry) (cylinder drive : ℕ) (transfer : Transfer) (aim : Aim)
   Link now other (Awaiting slot wait) = ⊥
   Link now other (Storing slot done) = ⊥
 
+  -- the sector in hand is of the other kind
+  abbrev pub OtherInHand : Stage → Type 0
+  OtherInHand (Searching look) = ⊥
+  OtherInHand (Turning slot) = ⊥
+  OtherInHand (Reading sector done) = sector .other ≡ true
+  OtherInHand (Draining sector looks) = sector .other ≡ true
+  OtherInHand (Awaiting slot wait) = ⊥
+  OtherInHand (Storing slot done) = ⊥
+
   -- bytes of the sector in hand that were moved
   abbrev pub doneIn : Stage → ℕ
   doneIn (Searching look) = 0
@@ -288,6 +311,8 @@ module _ (g : Geometry) (cylinder drive : ℕ) (transfer : Transfer) (aim : Aim)
     pub told-to : task .transfer ≡ transfer
     -- with no sector of the other kind met, none is skipped
     pub clear : task .other ≡ false → (j : ℕ) → num j ≡ j
+    -- SK 0: the first sector of the other kind met is the one in hand
+    pub shown : transfer .sk ≡ false → task .other ≡ true → OtherInHand stage
     pub side : site .side ≡ aimNo transfer aim m .side
     pub id : task .id ≡ aimNo transfer aim m .id
     pub link : Link (aimNo transfer aim m) (task .other) stage
@@ -332,6 +357,7 @@ module _ (g : Geometry) (cylinder drive : ℕ) (transfer : Transfer) (aim : Aim)
         hands = h;
         says = record {
           normal = λ l z. absurd (failed-above (site .drive) (site .side) (rw (v .st0) at l));
+          other = λ k l z. absurd (failed-above (site .drive) (site .side) (rw (v .st0) at l));
           past-eot = λ e. absurd (other (sym (v .st1-is) ∙ e));
         };
       }
@@ -370,9 +396,11 @@ module _ (g : Geometry) (cylinder drive : ℕ) (transfer : Transfer) (aim : Aim)
 
     -- to another stage of the same sector
     to : (task′ : Task) (stage′ : Stage) (f′ : Fifo) → task′ .transfer ≡ task .transfer → task′ .id ≡ task .id
-        → (task′ .other ≡ false → task .other ≡ false) → Link now (task′ .other) stage′ → AsksSome f′ → Flowing (b .num) (b .n) (doneIn stage′) f′ t
+        → (task′ .other ≡ false → task .other ≡ false)
+        → (transfer .sk ≡ false → task′ .other ≡ true → OtherInHand stage′) → Link now (task′ .other) stage′
+        → AsksSome f′ → Flowing (b .num) (b .n) (doneIn stage′) f′ t
         → Busy site task′ stage′ f′ t
-    to task′ stage′ f′ e i o l a s =
+    to task′ stage′ f′ e i o sh l a s =
         record {
           num = b .num;
           n = b .n;
@@ -382,6 +410,7 @@ module _ (g : Geometry) (cylinder drive : ℕ) (transfer : Transfer) (aim : Aim)
           drive-is = b .drive-is;
           told-to = e ∙ b .told-to;
           clear = λ x. b .clear (o x);
+          shown = sh;
           side = b .side;
           id = i ∙ b .id;
           link = l;
@@ -410,8 +439,8 @@ module _ (g : Geometry) (cylinder drive : ℕ) (transfer : Transfer) (aim : Aim)
 
     -- 01 Next, of a sector read
     next-over : (verdict : Verdict) → f .count ≡ 0 → Flowing (b .num) (b .n) P f t → Good (b .m)
-        → NextEnds (f .tc) site task verdict → Over verdict t
-    next-over verdict z fl last v =
+        → (transfer .sk ≡ false → task .other ≡ true → ⊥) → NextEnds (f .tc) site task verdict → Over verdict t
+    next-over verdict z fl last sh v =
         record {
           hands = record {
             num = b .num;
@@ -434,6 +463,7 @@ module _ (g : Geometry) (cylinder drive : ℕ) (transfer : Transfer) (aim : Aim)
             let v′ : NextEnds false site task verdict = rw a at v in
             record {
               normal = λ l y. absurd (failed-above (site .drive) (site .side) (rw (v′ .st0) at l));
+              other = λ k l y. absurd (failed-above (site .drive) (site .side) (rw (v′ .st0) at l));
               past-eot = λ e. record {
                 told = c;
                 all = omega (arith, sum, z);
@@ -454,12 +484,59 @@ module _ (g : Geometry) (cylinder drive : ℕ) (transfer : Transfer) (aim : Aim)
                 none = b .clear (clear-bit (task .other) (sym (v′ .st2) ∙ y));
                 address = address-of (verdict .id) _ there (v′ .id);
               };
+              other = λ k l y. absurd (sh k (set-bit (task .other) (sym (v′ .st2) ∙ y)));
               past-eot = λ e. absurd (omega (arith, v′ .st1));
+            }
+
+    -- 01 Read: the other kind, not skipped: the sector's own address
+    other-over : (sector : Sector) (verdict : Verdict) → Sees now (task .other) sector → sector .broken ≡ false
+        → sector .other ≡ true → verdict .st1 ≡ 0x00 → verdict .st2 ≡ otherBit (task .other) + 0x00
+        → verdict .id ≡ task .id → f .count ≡ 0 → Flowing (b .num) (b .n) P f t → Over verdict t
+    unfolding busy-hands
+    other-over sector verdict s whole ok z os i none fl =
+        let st2 : verdict .st2 ≡ 0x40 = os ∙ ap (λ (x : Bool). otherBit x + 0x00) (s .other-is ok) in
+        record {
+          hands = busy-hands b;
+          says = record {
+            normal = λ l y. absurd (omega arith);
+            other = λ k l y. record {
+              above = more fl;
+              below = omega (arith, flow-most g cylinder transfer aim img (b .num) fl (omega arith));
+              all = whole-of fl;
+              good = b .trail .good;
+              other = subst (IsGoodOther g cylinder transfer aim img) (sym there) at-hand;
+              address = i ∙ b .id ∙ ap (λ (m : ℕ). aimNo transfer aim m .id) (sym there);
+            };
+            past-eot = λ y. absurd (omega arith);
+          };
+        }
+      where
+        there : b .num (b .n) ≡ b .m
+        there = trail-now (b .num) (b .n) (b .m) (b .trail)
+
+        more : Flowing (b .num) (b .n) P f t → b .n * P < length (t .got)
+        more (flows a c lo sum all) = omega (arith, sum, none, size-some (g .n))
+        more (ended a c off quiet all lo hi) = lo
+
+        whole-of : Flowing (b .num) (b .n) P f t → t .told ≡ false → length (t .got) ≡ (b .n + 1) * P
+        whole-of (flows a c lo sum all) u = omega (arith, sum, none)
+        whole-of (ended a c off quiet all lo hi) u = absurd (true≢false (sym c ∙ u))
+
+        kind-is : s .kind ≡ not (transfer .deleted)
+        kind-is = differs-so _ _ (sym (s .kind-is) ∙ ok)
+
+        at-hand : IsGoodOther g cylinder transfer aim img (b .m)
+        at-hand =
+            record {
+              at = _;
+              stands = s .stands;
+              mark = mark-byte _ _ _ (s .mark ∙ ap (λ (x : Bool). Data x (sector .broken)) kind-is
+                  ∙ ap (λ (x : Bool). Data (not (transfer .deleted)) x) whole);
             }
 
     -- on to the next aim
     on-turn : (slot : ℕ) (num : ℕ → ℕ) (n : ℕ) (other : Bool) → (other ≡ false → (j : ℕ) → num j ≡ j)
-        → Has g cylinder (now .side) slot
+        → (transfer .sk ≡ false → other ≡ true → ⊥) → Has g cylinder (now .side) slot
         → Trail num n (suc (b .m)) → Flowing num n 0 f t
         → task .id .r ≡ task .transfer .eot → task .transfer .mt ≡ true → site .side ≡ 0
         → Busy (onSide 1 site) (record {
@@ -467,7 +544,7 @@ module _ (g : Geometry) (cylinder drive : ℕ) (transfer : Transfer) (aim : Aim)
           id = advancedOf (task .id) (task .transfer .eot) (task .transfer .mt) (site .side) 1;
           other = other;
         }) (Turning (nextSlot slot (site .disk .slots))) f t
-    on-turn slot num n other clear has trail fl r mt first =
+    on-turn slot num n other clear sh has trail fl r mt first =
         let r′ : now .id .r ≡ transfer .eot = rw (b .id, b .told-to) at r in
         record {
           num = num;
@@ -478,6 +555,7 @@ module _ (g : Geometry) (cylinder drive : ℕ) (transfer : Transfer) (aim : Aim)
           drive-is = b .drive-is;
           told-to = b .told-to;
           clear = clear;
+          shown = sh;
           side = sym (onward-turn transfer now r′);
           id = rw (b .id, b .told-to, b .side);
           link = (has .on-disk, rw (b .disk) (next-slot-below slot (g .slots) (fits .range .slots .0)));
@@ -487,7 +565,7 @@ module _ (g : Geometry) (cylinder drive : ℕ) (transfer : Transfer) (aim : Aim)
         }
 
     on-step : (slot : ℕ) (num : ℕ → ℕ) (n : ℕ) (other : Bool) → (other ≡ false → (j : ℕ) → num j ≡ j)
-        → Has g cylinder (now .side) slot
+        → (transfer .sk ≡ false → other ≡ true → ⊥) → Has g cylinder (now .side) slot
         → Trail num n (suc (b .m)) → Flowing num n 0 f t
         → (task .id .r ≡ task .transfer .eot → ⊥)
         → Busy site (record {
@@ -495,7 +573,7 @@ module _ (g : Geometry) (cylinder drive : ℕ) (transfer : Transfer) (aim : Aim)
           id = advancedOf (task .id) (task .transfer .eot) (task .transfer .mt) (site .side) 1;
           other = other;
         }) (Searching (freshAt (nextSlot slot (site .disk .slots)))) f t
-    on-step slot num n other clear has trail fl r =
+    on-step slot num n other clear sh has trail fl r =
         let r′ : now .id .r ≡ transfer .eot → ⊥ = rw (b .id, b .told-to) at r in
         let stay = onward-stay transfer now r′ in
         record {
@@ -507,6 +585,7 @@ module _ (g : Geometry) (cylinder drive : ℕ) (transfer : Transfer) (aim : Aim)
           drive-is = b .drive-is;
           told-to = b .told-to;
           clear = clear;
+          shown = sh;
           side = b .side ∙ sym stay;
           id = rw (b .id, b .told-to, b .side);
           link = record {
@@ -520,21 +599,21 @@ module _ (g : Geometry) (cylinder drive : ℕ) (transfer : Transfer) (aim : Aim)
         }
 
     next-step : (sector : Sector) (o : Step) → Sees now (task .other) sector → sector .broken ≡ false
-        → sector .other ≡ false → f .count ≡ 0 → Flowing (b .num) (b .n) P f t
-        → NextRule (f .tc) (sector .slot) site task f Nothing o → OnStep o t
-    next-step sector o s whole own z fl (stops verdict v e) =
-        rw e (refl, next-over verdict z fl (good-now sector s whole own) v)
-    next-step sector o s whole own z fl (turns u r x d e) =
+        → sector .other ≡ false → (transfer .sk ≡ false → task .other ≡ true → ⊥) → f .count ≡ 0
+        → Flowing (b .num) (b .n) P f t → NextRule (f .tc) (sector .slot) site task f Nothing o → OnStep o t
+    next-step sector o s whole own sh z fl (stops verdict v e) =
+        rw e (refl, next-over verdict z fl (good-now sector s whole own) sh v)
+    next-step sector o s whole own sh z fl (turns u r x d e) =
         rw e (
           refl,
-          on-turn (sector .slot) (b .num) (suc (b .n)) (task .other) (b .clear) (s .has)
+          on-turn (sector .slot) (b .num) (suc (b .n)) (task .other) (b .clear) sh (s .has)
               (trail-next (b .num) (b .n) (b .m) (b .trail) (good-now sector s whole own))
               (flow-next g cylinder transfer aim img (b .num) fl refl z u) r x d,
         )
-    next-step sector o s whole own z fl (steps u r e) =
+    next-step sector o s whole own sh z fl (steps u r e) =
         rw e (
           refl,
-          on-step (sector .slot) (b .num) (suc (b .n)) (task .other) (b .clear) (s .has)
+          on-step (sector .slot) (b .num) (suc (b .n)) (task .other) (b .clear) sh (s .has)
               (trail-next (b .num) (b .n) (b .m) (b .trail) (good-now sector s whole own))
               (flow-next g cylinder transfer aim img (b .num) fl refl z u) r,
         )
@@ -560,6 +639,7 @@ module _ (g : Geometry) (cylinder drive : ℕ) (transfer : Transfer) (aim : Aim)
           };
           says = record {
             normal = λ l y. absurd (failed-above (site .drive) (site .side) (rw (v′ .st0) at l));
+            other = λ p l y. absurd (true≢false (sym k ∙ p));
             past-eot = λ e. record {
               told = c;
               all = omega (arith, sum, lo);
@@ -576,6 +656,7 @@ module _ (g : Geometry) (cylinder drive : ℕ) (transfer : Transfer) (aim : Aim)
           hands = busy-hands b;
           says = record {
             normal = λ l y. absurd (omega arith);
+            other = λ p l y. absurd (true≢false (sym k ∙ p));
             past-eot = λ e. absurd (omega (arith, v′ .st1));
           };
         }
@@ -587,7 +668,7 @@ module _ (g : Geometry) (cylinder drive : ℕ) (transfer : Transfer) (aim : Aim)
     skip-step slot o k other has fit fl (turns u r x d e) =
         rw e (
           refl,
-          on-turn slot (bumped (b .n) (b .num)) (b .n) (task .other || true) (λ y. absurd (true≢false (sym (or-true (task .other)) ∙ y))) has
+          on-turn slot (bumped (b .n) (b .num)) (b .n) (task .other || true) (λ y. absurd (true≢false (sym (or-true (task .other)) ∙ y))) (λ y e. true≢false (sym k ∙ y)) has
               (trail-skip (b .num) (b .n) (b .m) (b .trail) k other)
               (flow-skip g cylinder transfer aim img (b .num) (bumped (b .n) (b .num)) efifo (b .n) f t fit
               (bump-before (b .n) (b .num)) u fl) r x d,
@@ -595,7 +676,7 @@ module _ (g : Geometry) (cylinder drive : ℕ) (transfer : Transfer) (aim : Aim)
     skip-step slot o k other has fit fl (steps u r e) =
         rw e (
           refl,
-          on-step slot (bumped (b .n) (b .num)) (b .n) (task .other || true) (λ y. absurd (true≢false (sym (or-true (task .other)) ∙ y))) has
+          on-step slot (bumped (b .n) (b .num)) (b .n) (task .other || true) (λ y. absurd (true≢false (sym (or-true (task .other)) ∙ y))) (λ y e. true≢false (sym k ∙ y)) has
               (trail-skip (b .num) (b .n) (b .m) (b .trail) k other)
               (flow-skip g cylinder transfer aim img (b .num) (bumped (b .n) (b .num)) efifo (b .n) f t fit
               (bump-before (b .n) (b .num)) u fl) r,
@@ -642,7 +723,7 @@ module _ (g : Geometry) (cylinder drive : ℕ) (transfer : Transfer) (aim : Aim)
         let l′ : look .slot + 1 < g .slots = rw (b .disk) at l in
         rw e (
           refl,
-          to task (Searching on) f refl refl (λ y. y)
+          to task (Searching on) f refl refl (λ y. y) (rw p at (b .shown))
               (record { on-disk = k .on-disk; on-cylinder = k .on-cylinder; on-track = omega arith }) (b .asks)
               (rw p at (b .flow)),
         )
@@ -650,7 +731,7 @@ module _ (g : Geometry) (cylinder drive : ℕ) (transfer : Transfer) (aim : Aim)
         let k : Has g cylinder (now .side) (look .slot) = rw p at (b .link) in
         rw e (
           refl,
-          to task (Searching on) f refl refl (λ y. y)
+          to task (Searching on) f refl refl (λ y. y) (rw p at (b .shown))
               (record { on-disk = k .on-disk; on-cylinder = k .on-cylinder; on-track = omega (arith, k .on-track) })
               (b .asks) (rw p at (b .flow)),
         )
@@ -660,7 +741,8 @@ module _ (g : Geometry) (cylinder drive : ℕ) (transfer : Transfer) (aim : Aim)
         rw e (
           refl,
           to _ (Reading (record { slot = look .slot; broken = broken; other = other }) 0) f refl refl
-              (λ y. or-first (task .other) other y) (
+              (λ y. or-first (task .other) other y)
+              (λ k y. or-second (task .other) other ((rw p at (b .shown)) k) y) (
                 record {
                   stands = found (look .slot) k h;
                   has = k;
@@ -695,7 +777,7 @@ module _ (g : Geometry) (cylinder drive : ℕ) (transfer : Transfer) (aim : Aim)
         let y″ : ltb (now .side) (g .heads) ≡ true = rw (b .disk, b .side) at y′ in
         rw e (
           refl,
-          to task (Searching (freshAt slot)) f refl refl (λ y. y)
+          to task (Searching (freshAt slot)) f refl refl (λ y. y) (rw p at (b .shown))
               (record { on-disk = on-disk; on-cylinder = ltb-true _ _ y″; on-track = on-track }) (b .asks)
               (rw p at (b .flow)),
         )
@@ -708,29 +790,22 @@ module _ (g : Geometry) (cylinder drive : ℕ) (transfer : Transfer) (aim : Aim)
         let (s, d) = rw p at (b .link) in
         let l′ : done + 1 < P = rw (b .disk) at l in
         let (a, fl) = fill sector done false f′ fit s d (rw p at (b .flow)) x in
-        rw e (refl, to task (Reading sector (done + 1)) f′ refl refl (λ y. y) (s, l′) a fl)
+        rw e (refl, to task (Reading sector (done + 1)) f′ refl refl (λ y. y) (rw p at (b .shown)) (s, l′) a fl)
     busy-rule o fit is (moves-last sector done f′ p l x e) =
         let (s, d) = rw p at (b .link) in
         let l′ : P ≤ done + 1 = rw (b .disk) at l in
         let z : done + 1 ≡ P = omega arith in
         let (a, fl) = fill sector done true f′ fit s d (rw p at (b .flow)) x in
-        rw e (refl, to task (Draining sector 0) f′ refl refl (λ y. y) s a (subst (λ (k : ℕ). Flowing (b .num) (b .n) k f′ t) z fl))
+        rw e (refl, to task (Draining sector 0) f′ refl refl (λ y. y) (rw p at (b .shown)) s a (subst (λ (k : ℕ). Flowing (b .num) (b .n) k f′ t) z fl))
     busy-rule o fit is (drains sector looks p l e) =
-        rw e (refl, to task (Draining sector (looks + 1)) f refl refl (λ y. y) (rw p at (b .link)) (b .asks) (rw p at (b .flow)))
+        rw e (refl, to task (Draining sector (looks + 1)) f refl refl (λ y. y) (rw p at (b .shown)) (rw p at (b .link)) (b .asks) (rw p at (b .flow)))
     busy-rule o fit is (data-error sector looks verdict p q y v e) =
         rw e (refl, fails-over site task verdict 0x20 t (busy-hands b) v (λ z. omega arith))
-    busy-rule o fit is (other-kind sector looks verdict p q z ok os e) =
-        let s : Sees now (task .other) sector = rw p at (b .link) in
-        let w : verdict .st2 ≡ 0x40 = os ∙ ap (λ (x : Bool). otherBit x + 0x00) (s .other-is ok) in
-        rw e (
-          refl,
-          record {
-            hands = busy-hands b;
-            says = record { normal = λ l y. absurd (omega arith); past-eot = λ y. absurd (omega arith) };
-          },
-        )
+    busy-rule o fit is (other-kind sector looks verdict p q z ok os v zc e) =
+        rw e (refl, other-over sector verdict (rw p at (b .link)) q ok z os (v .id) zc (rw p at (b .flow)))
     busy-rule o fit is (drained sector looks p q ok zc n) =
-        next-step sector o (rw p at (b .link)) q ok zc (rw p at (b .flow)) n
+        next-step sector o (rw p at (b .link)) q ok (λ k y. true≢false (sym ((rw p at (b .shown)) k y) ∙ ok)) zc
+        (rw p at (b .flow)) n
 
 module _ (g : Geometry) (cylinder : ℕ) (order : Order) (transfer : Transfer) (id : Id) (img : List ℕ)
     (disk : diskIn img ≡ Present g) (moves-it : order .job ≡ Move transfer id) (rd : transfer .pass ≡ Read)
@@ -770,7 +845,11 @@ module _ (g : Geometry) (cylinder : ℕ) (order : Order) (transfer : Transfer) (
   shut-over st1 st2 other =
       record {
         hands = none-yet;
-        says = record { normal = λ l z. absurd (omega arith); past-eot = λ e. absurd (other e) };
+        says = record {
+          normal = λ l z. absurd (omega arith);
+          other = λ k l z. absurd (omega arith);
+          past-eot = λ e. absurd (other e);
+        };
       }
 
   -- The first tick.
@@ -795,6 +874,7 @@ module _ (g : Geometry) (cylinder : ℕ) (order : Order) (transfer : Transfer) (
           drive-is = refl;
           told-to = refl;
           clear = λ y j. refl;
+          shown = λ k y. false≢true y;
           side = refl;
           id = refl;
           link = record {
@@ -935,6 +1015,7 @@ module _ (g : Geometry) (cylinder : ℕ) (order : Order) (transfer : Transfer) (
         drive-is = b .drive-is;
         told-to = b .told-to;
         clear = b .clear;
+        shown = b .shown;
         side = b .side;
         id = b .id;
         link = b .link;

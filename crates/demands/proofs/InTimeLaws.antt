@@ -181,7 +181,7 @@ module _ (efifo : Bool) (fifothr : ℕ) (L : Type 0) where
     read-gives r (s, at) (drains sector looks p l e) = rw (e, r) (s, rw p at at)
     read-gives r (s, at) (data-error sector looks verdict p b y v e) =
         rw e (λ t. absurd (omega (arith, v .st1-is)))
-    read-gives r (s, at) (other-kind sector looks verdict p b z ok os e) = rw e (λ t. absurd (omega arith))
+    read-gives r (s, at) (other-kind sector looks verdict p b z ok os v zc e) = rw e (λ t. absurd (omega arith))
     read-gives r (s, at) (drained sector looks p b ok zc n) = read-next _ (sector .slot) site task f _ o r s n
 
     -- 01 Search, Write
@@ -210,7 +210,7 @@ module _ (efifo : Bool) (fifothr : ℕ) (L : Type 0) where
     write-gives r (s, at) (moves-last sector done f′ p l x e) = absurd (rw p at at)
     write-gives r (s, at) (drains sector looks p l e) = absurd (rw p at at)
     write-gives r (s, at) (data-error sector looks verdict p b y v e) = absurd (rw p at at)
-    write-gives r (s, at) (other-kind sector looks verdict p b z ok os e) = absurd (rw p at at)
+    write-gives r (s, at) (other-kind sector looks verdict p b z ok os v zc e) = absurd (rw p at at)
     write-gives r (s, at) (drained sector looks p b ok zc n) = absurd (rw p at at)
 
     rule-gives : (pass : Pass) → task .transfer .pass ≡ pass → Served pass efifo fifothr f stage

@@ -373,3 +373,13 @@ noted-host (Store at byte) h = go (h .begun)
     go no-one = refl
     go (some-of mark bytes) =
         by-test (eqb at mark) (λ (x : History). x .host ≡ h .host) _ _ (λ t. refl) (λ t. refl)
+
+-- and whether TC came
+pub noted-told : (effect : Effect) (h : History) → notedStore effect h .told ≡ h .told
+noted-told Nothing h = refl
+noted-told (Store at byte) h = go (h .begun)
+  where
+    go : (b : Begun) → storedBy at byte b h .told ≡ h .told
+    go no-one = refl
+    go (some-of mark bytes) =
+        by-test (eqb at mark) (λ (x : History). x .told ≡ h .told) _ _ (λ t. refl) (λ t. refl)

@@ -24,6 +24,7 @@ pub mod InTimeLaws
 pub mod LeftLaws
 pub mod LoadsBackLaws
 pub mod NotFoundLaws
+pub mod OtherKindLaws
 pub mod OtherLaws
 pub mod PowerCutLaws
 pub mod QuietLaws
@@ -37,5 +38,6 @@ pub mod SearchLaws
 pub mod SoundLaws
 pub mod SplitLaws
 pub mod StepsLaws
+pub mod StopLaws
 pub mod SucceedsLaws
 pub mod TickRules

@@ -35,7 +35,7 @@ use Rattle.demands.specs.Quiet.{Quiet}
 use Rattle.demands.proofs.QuietLaws.{quiet-real, quiet-after}
 
 -- a phase at work is of that drive
-abbrev Of : ℕ → Phase → Type 0
+abbrev pub Of : ℕ → Phase → Type 0
 Of drive Idle = Unit {0}
 Of drive (Gathering entry) = Unit {0}
 Of drive (Starting order) = order .drive ≡ drive
@@ -99,7 +99,7 @@ module _ (drive : ℕ) where
   still (Sensing unit) a b c e = refl
   still (Answering loud) a b c e = refl
 
-  rests : (a b : List ℕ) (c : Controller) → atWork (c .phase) ≡ false → ruledOf a b c .effect ≡ Nothing
+  pub rests : (a b : List ℕ) (c : Controller) → atWork (c .phase) ≡ false → ruledOf a b c .effect ≡ Nothing
   unfolding ruledOf decideOf stillOf
   rests a b c e =
       by-test (validOf c) (λ (x : Decision). x .effect ≡ Nothing) _ _
@@ -111,7 +111,7 @@ module _ (drive : ℕ) where
   kept-same : (k d : ℕ) (img : List ℕ) → storedAs d k Nothing img ≡ img
   kept-same k d img = by-test (eqb d k) (λ (l : List ℕ). l ≡ img) _ _ (λ t. refl) (λ t. refl)
 
-  other-tick : (k : ℕ) → (k ≡ drive → ⊥) → (a b : List ℕ) (c : Controller) (img : List ℕ) → Quiet c
+  pub other-tick : (k : ℕ) → (k ≡ drive → ⊥) → (a b : List ℕ) (c : Controller) (img : List ℕ) → Quiet c
       → Of drive (c .phase)
       → imageAfter k a b c img ≡ img
   unfolding imageAfter

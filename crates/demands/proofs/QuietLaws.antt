@@ -304,7 +304,7 @@ quiet-by call c bytewise q =
 pub quiet-after : (call : Call) (c : Controller) → Quiet c → atWork (c .phase) ≡ true → Quiet (after call c)
 quiet-after call c q w = quiet-by call c (λ byte e f. never _ f w) q
 
-quiet-run : (calls : List Call) (c : Controller) → AllOfBytes calls → Quiet c → Quiet (runCalls calls c)
+pub quiet-run : (calls : List Call) (c : Controller) → AllOfBytes calls → Quiet c → Quiet (runCalls calls c)
 unfolding runCalls
 quiet-run [] c b q = q
 quiet-run (call ∷ calls) c b q =

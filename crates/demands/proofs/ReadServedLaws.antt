@@ -65,7 +65,7 @@ unfolding settledOf withFifo withPhase answeredOf
 settled-registers (Ends verdict) f c = refl
 settled-registers (Works work) f c = refl
 
-tick-registers : (a b : List ℕ) (c : Controller) (drive : ℕ) (o : Step) → ruledOf a b c ≡ decidedOf drive o c
+pub tick-registers : (a b : List ℕ) (c : Controller) (drive : ℕ) (o : Step) → ruledOf a b c ≡ decidedOf drive o c
     → after (ticks a b) c .registers ≡ c .registers
 unfolding decidedOf
 tick-registers a b c drive o e =
@@ -74,20 +74,20 @@ tick-registers a b c drive o e =
 
 -- 01 Registers DRQ, Refusals 3: a cycle with the line on, to the host, hands over a byte
 module _ (tc : Bool) (c : Controller) (q : Quiet c) (line : drqOf c ≡ true) (to : phaseToHost (c .phase) ≡ true) where
-  takes-answer : answerTo (takes tc) c ≡ answerOf (Byte (frontOf (c .fifo))) (withFifo (takenOf tc (c .fifo)) c)
+  pub takes-answer : answerTo (takes tc) c ≡ answerOf (Byte (frontOf (c .fifo))) (withFifo (takenOf tc (c .fifo)) c)
   unfolding answerTo dmaRead
   takes-answer =
       rw (good-valid c (q .good), dma-read-is tc c, line, to, handed-fits (c .registers .efifo) (c .fifo) (q .good .fifo))
 
-  takes-record : after (takes tc) c ≡ withFifo (takenOf tc (c .fifo)) c
+  pub takes-record : after (takes tc) c ≡ withFifo (takenOf tc (c .fifo)) c
   unfolding answerOf
   takes-record = ap (λ (x : Answer). x .controller) takes-answer
 
-  takes-byte : (t : Taken) → takenBy (takes tc) c t ≡ tookOne (frontOf (c .fifo)) tc t
+  pub takes-byte : (t : Taken) → takenBy (takes tc) c t ≡ tookOne (frontOf (c .fifo)) tc t
   unfolding takenBy answerOf
   takes-byte t = ap (λ (x : Answer). tookBy tc (x .reply) t) takes-answer
 
-took-registers : (tc : Bool) (c : Controller) → withFifo (takenOf tc (c .fifo)) c .registers ≡ c .registers
+pub took-registers : (tc : Bool) (c : Controller) → withFifo (takenOf tc (c .fifo)) c .registers ≡ c .registers
 unfolding withFifo
 took-registers tc c = refl
 
@@ -106,20 +106,20 @@ module _ (order : Order) (transfer : Transfer) (id : Id) (a b : List ℕ) (g : G
   abbrev img : List ℕ
   img = pickOf (order .drive) a b
 
-  abbrev Running : Controller → Taken → Type 0
+  abbrev pub Running : Controller → Taken → Type 0
   Running c t = Run g cylinder order transfer id img disk job rd low c t
 
   -- motor, gate and DMA are on
-  record Lines (r : Registers) : Type 0 where
-    motor : motorIn (r .dor) drive ≡ true
-    gate : gateIn (r .dor) ≡ true
-    dma : dmaIn (r .spec2) ≡ true
+  pub record Lines (r : Registers) : Type 0 where
+    pub motor : motorIn (r .dor) drive ≡ true
+    pub gate : gateIn (r .dor) ≡ true
+    pub dma : dmaIn (r .spec2) ≡ true
 
-  record Ready (c : Controller) (t : Taken) : Type 0 where
-    quiet : Quiet c
-    lines : Lines (c .registers)
-    run : Running c t
-    told : TellsAt L t
+  pub record Ready (c : Controller) (t : Taken) : Type 0 where
+    pub quiet : Quiet c
+    pub lines : Lines (c .registers)
+    pub run : Running c t
+    pub told : TellsAt L t
 
   abbrev Host : ℕ → Controller → Taken → Type 0
   Host k c t = Serves drive L k img c t
@@ -152,7 +152,7 @@ module _ (order : Order) (transfer : Transfer) (id : Id) (a b : List ℕ) (g : G
       }
 
   -- what a call leaves
-  goes-on : (call : Call) (c : Controller) (t : Taken) → Ready c t → atWork (c .phase) ≡ true → Handed drive img call
+  pub goes-on : (call : Call) (c : Controller) (t : Taken) → Ready c t → atWork (c .phase) ≡ true → Handed drive img call
       → (imageBy drive img call c ≡ img) × Running (after call c) (takenBy call c t)
   unfolding Its Alone imageLeft takenOver runCalls
   goes-on call c t r w h =
@@ -192,16 +192,16 @@ module _ (order : Order) (transfer : Transfer) (id : Id) (a b : List ℕ) (g : G
           tick-registers a b c _ _ (tick-works a b c (Moving site task stage) (r .quiet) p)
 
   -- a request on is one of a read that TC has not stopped
-  record Asks (c : Controller) (t : Taken) : Type 0 where
-    some : 0 < c .fifo .count
-    to : phaseToHost (c .phase) ≡ true
-    line : drqOf c ≡ true
-    untold : t .told ≡ false
+  pub record Asks (c : Controller) (t : Taken) : Type 0 where
+    pub some : 0 < c .fifo .count
+    pub to : phaseToHost (c .phase) ≡ true
+    pub line : drqOf c ≡ true
+    pub untold : t .told ≡ false
 
   empty-start : (p : Phase) (n : ℕ) (f : Fifo) → p ≡ Starting order → Suits p n f → f ≡ emptied
   empty-start p n f e s = (rw e at s) .1
 
-  asking : (c : Controller) (t : Taken) → Ready c t → atWork (c .phase) ≡ true → c .fifo .asks ≡ true → Asks c t
+  pub asking : (c : Controller) (t : Taken) → Ready c t → atWork (c .phase) ≡ true → c .fifo .asks ≡ true → Asks c t
   unfolding drqOf
   asking c t r w on = go (r .run)
     where
@@ -226,10 +226,10 @@ module _ (order : Order) (transfer : Transfer) (id : Id) (a b : List ℕ) (g : G
           untold (ended y z nil off all lo hi) = absurd (true≢false (sym on ∙ off))
 
   -- TC comes with byte L
-  abbrev nowTc : Taken → Bool
+  abbrev pub nowTc : Taken → Bool
   nowTc t = eqb (length (t .got) + 1) L
 
-  told-next : (byte : ℕ) (t : Taken) → t .told ≡ false → TellsAt L t → TellsAt L (tookOne byte (nowTc t) t)
+  pub told-next : (byte : ℕ) (t : Taken) → t .told ≡ false → TellsAt L t → TellsAt L (tookOne byte (nowTc t) t)
   told-next byte t u x = (
     λ e. omega (arith, size, eqb-true (length (t .got) + 1) L (sym only ∙ e)),
     λ l. only ∙ eq-eqb (length (t .got) + 1) L (omega (arith, size, fewer (le-or-lt L (length (t .got))))),

@@ -372,7 +372,7 @@ module _ (g : Geometry) (cylinder drive : ℕ) (transfer : Transfer) (aim : Aim)
     course-rule o (data-error sector looks verdict p q y v e) =
         let s : sector ≡ sectorAt here = rw p at (w .on) in
         absurd (false≢true (sym (ap (λ (y : Sector). y .broken) s) ∙ q))
-    course-rule o (other-kind sector looks verdict p q z ok os e) =
+    course-rule o (other-kind sector looks verdict p q z ok os v zc e) =
         let s : sector ≡ sectorAt here = rw p at (w .on) in
         absurd (false≢true (sym (ap (λ (y : Sector). y .other) s) ∙ ok))
     course-rule o (drained sector looks p q ok zc x) =

@@ -505,7 +505,7 @@ module _ (g : Geometry) (cylinder drive : ℕ) (transfer : Transfer) (aim : Aim)
       rule-goes o timely w (moves-last sector done fifo′ p l x e) = absurd (rw p at (b .link))
       rule-goes o timely w (drains sector looks p l e) = absurd (rw p at (b .link))
       rule-goes o timely w (data-error sector looks verdict p q s v e) = absurd (rw p at (b .link))
-      rule-goes o timely w (other-kind sector looks verdict p q z ok os e) = absurd (rw p at (b .link))
+      rule-goes o timely w (other-kind sector looks verdict p q z ok os v zc e) = absurd (rw p at (b .link))
       rule-goes o timely w (drained sector looks p q ok zc n) = absurd (rw p at (b .link))
 
 -- The record, call by call.

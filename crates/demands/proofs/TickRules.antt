@@ -62,6 +62,11 @@ pub record Fails (st1 : ℕ) (site : Site) (task : Task) (verdict : Verdict) : T
   pub st1-is : verdict .st1 ≡ st1
   pub id : verdict .id ≡ task .id
 
+-- 01 Read: of a sector of the other kind: IC 00, the sector in hand
+pub record EndsInHand (site : Site) (task : Task) (verdict : Verdict) : Type 0 where
+  pub st0 : verdict .st0 ≡ st0Of true (site .drive) (site .side)
+  pub id : verdict .id ≡ task .id
+
 -- 01 Next, Result: where Next ends it: normally with TC, else at EOT with 40 and ST1 80; the address is the next one
 pub record NextEnds (tc : Bool) (site : Site) (task : Task) (verdict : Verdict) : Type 0 where
   pub st0 : verdict .st0 ≡ st0Of tc (site .drive) (site .side)
@@ -165,7 +170,8 @@ pub data Rule (head : ℕ) (img : List ℕ) (efifo : Bool) (fifothr : ℕ) (site
       → Fails 0x20 site task verdict → o ≡ endsWith verdict Nothing → Rule head img efifo fifothr site task fifo stage o
   other-kind : (sector : Sector) (looks : ℕ) (verdict : Verdict) → stage ≡ Draining sector looks
       → sector .broken ≡ false → verdict .st1 ≡ 0x00 → sector .other ≡ true → verdict .st2 ≡ otherBit (task .other) + 0x00
-      → o ≡ endsWith verdict Nothing → Rule head img efifo fifothr site task fifo stage o
+      → EndsInHand site task verdict → fifo .count ≡ 0 → o ≡ endsWith verdict Nothing
+      → Rule head img efifo fifothr site task fifo stage o
   drained : (sector : Sector) (looks : ℕ) → stage ≡ Draining sector looks → sector .broken ≡ false
       → sector .other ≡ false → fifo .count ≡ 0 → NextRule (fifo .tc) (sector .slot) site task fifo Nothing o → Rule head img efifo fifothr site task fifo stage o
 
@@ -347,7 +353,7 @@ module _ (head : ℕ) (img : List ℕ) (efifo : Bool) (fifothr : ℕ) (site : Si
       by-test (sector .broken) (R (Draining sector looks)) _ _
       (λ t. data-error sector looks _ refl t refl as-said refl)
       (λ t. by-test (sector .other) (R (Draining sector looks)) _ _
-      (λ u. other-kind sector looks _ refl t refl u refl refl)
+      (λ u. other-kind sector looks _ refl t refl u refl (record { st0 = refl; id = refl }) z refl)
       (λ u. drained sector looks refl t u z (follow-rule (sector .slot) site task fifo Nothing (fifo .tc))))
 
   drain-rule : (sector : Sector) (looks : ℕ) → R (Draining sector looks) (drainOf sector looks site task fifo)

@@ -80,6 +80,12 @@ module _ (g : Geometry) (cylinder : ℕ) (transfer : Transfer) (aim : Aim) (img 
     pub stands : Stands g img cylinder (aimNo transfer aim m) at
     pub kind : OfKind (not (transfer .deleted)) (getD img at 0)
 
+  -- under the good mark of the other kind
+  pub record IsGoodOther (m : ℕ) : Type 0 where
+    pub at : ℕ
+    pub stands : Stands g img cylinder (aimNo transfer aim m) at
+    pub mark : getD img at 0 ≡ byteOf (Data (not (transfer .deleted)) false)
+
   -- sector number i of the command was read, as one of n, or skipped
   pub data Passed (num : ℕ → ℕ) (n i : ℕ) : Type 0 where
     was-read : (j : ℕ) → j < n → num j ≡ i → Passed num n i
@@ -122,9 +128,20 @@ module _ (g : Geometry) (cylinder : ℕ) (transfer : Transfer) (aim : Aim) (img 
     pub good : (j : ℕ) → j < n → IsGood (num j)
     pub address : id ≡ aimNo transfer aim (num n) .id
 
-  -- what ST0, ST1, ST2 and the address say
+  -- 01 Read: behind n good sectors the one in hand is of the other kind and ended it, with its own address; TC came
+  -- with a byte of it, or all its bytes were taken
+  pub record EndsOther (num : ℕ → ℕ) (n : ℕ) (t : Taken) (id : Id) : Type 0 where
+    pub above : n * passing g < length (t .got)
+    pub below : length (t .got) ≤ (n + 1) * passing g
+    pub all : t .told ≡ false → length (t .got) ≡ (n + 1) * passing g
+    pub good : (j : ℕ) → j < n → IsGood (num j)
+    pub other : IsGoodOther (num n)
+    pub address : id ≡ aimNo transfer aim (num n) .id
+
+  -- what ST0, ST1, ST2 and the address say. With SK 1 ST2 40 may be of a sector skipped
   pub record Tells (num : ℕ → ℕ) (n : ℕ) (t : Taken) (st0 st1 st2 : ℕ) (id : Id) : Type 0 where
     pub normal : st0 < 0x40 → st2 ≡ 0x00 → EndsTold num n t id
+    pub other : transfer .sk ≡ false → st0 < 0x40 → st2 ≡ 0x40 → EndsOther num n t id
     pub past-eot : st1 ≡ 0x80 → EndsAtEot num n t id
 
   -- what was handed over, with n sectors read to their end

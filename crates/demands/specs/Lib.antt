@@ -11,6 +11,7 @@ pub mod History
 pub mod InTime
 pub mod LoadsBack
 pub mod NotFound
+pub mod OtherKind
 pub mod PowerCut
 pub mod Quiet
 pub mod ReadIdGives

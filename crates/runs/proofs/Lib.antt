@@ -8,6 +8,7 @@ pub mod FormatRuns
 pub mod HandedExamples
 pub mod NotFoundRuns
 pub mod Open
+pub mod OtherKindRuns
 pub mod PromptRuns
 pub mod ReadIdRuns
 pub mod RegisterRuns

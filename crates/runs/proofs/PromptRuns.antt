@@ -48,9 +48,10 @@ back-goes : tookIn back ≡ sums backEnd true
 unfolding allOpen goes
 back-goes = refl
 
-double-sound : Sound (disk 1 1 2 1) (double 1)
-double-sound =
-    small-sound (double 1)
+-- whatever the mark of sector 1
+pub double-sound : (mark : ℕ) → mark ≤ 5 → Sound (disk 1 1 2 1) (double mark)
+double-sound mark most =
+    small-sound (double mark)
     (record {
       header = refl;
       size = refl;
@@ -59,7 +60,7 @@ double-sound =
       low = refl;
       cylinder = refl;
       side = refl;
-      first = refl;
+      first = most;
       second = refl;
       first-r = refl;
       second-r = refl;
@@ -77,7 +78,7 @@ left-sound =
       low = refl;
       cylinder = refl;
       side = refl;
-      first = refl;
+      first = omega arith;
       second = refl;
       first-r = refl;
       second-r = refl;
@@ -108,7 +109,7 @@ prompt-runs =
     read-run back backEnd _ _ true refl (record { accepted = refl; moves = refl; reads = refl }) refl
     (omega arith) back-goes in
     record {
-      sound = double-sound;
+      sound = double-sound 1 (omega arith);
       written = written;
       write-served = write-served wrote wroteEnd wrote-sum;
       left-is = sym (left-in wrote) ∙ ap (λ (t : Whole). t .left) wrote-goes;

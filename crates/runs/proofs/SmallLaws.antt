@@ -1,7 +1,7 @@
 -- The small disk of the runs, one track with sectors 1 and 2 of 256 bytes, is sound (01 Image sound), whatever the two
 -- hold.
 -- Assumes nothing.
-use Prim.Native.Nat.{ℕ, zero, suc, _<_}
+use Prim.Native.Nat.{ℕ, zero, suc, _≤_, _<_}
 use native.Mathlib.Omega.{arith}
 use mathlib.Core.List.{List}
 use mathlib.Core.Path.{_≡_, sym, ap, _∙_}
@@ -12,7 +12,7 @@ use Rattle.image.specs.Examples.{disk}
 use Rattle.image.specs.Layout.{sizeOf, trackLength, lengthOf, trackAt, offsetOf, Has}
 use Rattle.image.specs.Sound.{Track, markIn, NoTwins, Sound}
 
--- header and length; the track's tag, length, cylinder and side; marks 1; R 1 and R 2; the last tag
+-- header and length; the track's tag, length, cylinder and side; marks up to 5, 1; R 1 and R 2; the last tag
 pub record Small (img : List ℕ) : Type 0 where
   pub header : take 8 img ≡ headerOf (disk 1 1 2 1)
   pub size : length img ≡ 538
@@ -21,7 +21,7 @@ pub record Small (img : List ℕ) : Type 0 where
   pub low : getD img 10 0 ≡ 0x0C
   pub cylinder : getD img 11 0 ≡ 0
   pub side : getD img 12 0 ≡ 0
-  pub first : getD img 13 0 ≡ 1
+  pub first : getD img 13 0 ≤ 5
   pub second : getD img 274 0 ≡ 1
   pub first-r : getD img 16 0 ≡ 1
   pub second-r : getD img 277 0 ≡ 2
@@ -39,10 +39,10 @@ module _ (img : List ℕ) (s : Small img) where
   small-track (suc cylinder) side p q = absurd (omega arith)
 
   small-marks : (cylinder side k : ℕ) → Has (disk 1 1 2 1) cylinder side k
-      → markIn (disk 1 1 2 1) img cylinder side k ≡ 1
+      → markIn (disk 1 1 2 1) img cylinder side k ≤ 5
   unfolding sizeOf trackLength trackAt offsetOf
   small-marks zero zero zero h = s .first
-  small-marks zero zero (suc zero) h = s .second
+  small-marks zero zero (suc zero) h = omega (arith, s .second)
   small-marks zero zero (suc (suc k)) h = absurd (omega (arith, h .on-track))
   small-marks zero (suc side) k h = absurd (omega (arith, h .on-cylinder))
   small-marks (suc cylinder) side k h = absurd (omega (arith, h .on-disk))
@@ -73,6 +73,6 @@ module _ (img : List ℕ) (s : Small img) where
     };
     tracks = small-track;
     last = record { tagged = s .last .0; high = s .last .1; low = s .last .2 };
-    marks = λ cylinder side k h. omega (arith, small-marks cylinder side k h);
+    marks = small-marks;
     once = small-once;
   }

@@ -7,6 +7,7 @@ pub mod FormatRuns
 pub mod HandedExamples
 pub mod Host
 pub mod NotFoundRuns
+pub mod OtherKindRuns
 pub mod PromptRuns
 pub mod ReadIdRuns
 pub mod RegisterRuns
