@@ -74,6 +74,50 @@ uint64_t bel_ticks(uint8_t *record, size_t len, uint8_t *image0, size_t len0, ui
 #define BEL_LAST(word) ((uint32_t)((word)&0xFFFFFFFFu))
 #define BEL_MADE(word) ((uint32_t)((word) >> 32))
 
+/* The block service, for whoever knows no cylinders. Block b of a disk is sector b mod S plus 1; the quotient mod heads is
+ * the side, the rest the cylinder. A block has B bytes, as the disk's header says: 128 x 2^N.
+ *
+ * A request takes the record in any phase and drops what it was at: it turns the drive's motor on and leaves it on, resets
+ * the controller, moves the head, issues one command, makes all its ticks and DMA cycles and takes the result. It does this
+ * by the calls above and by nothing else, so that a cut inside one leaves the image as a cut in those calls does; what
+ * bel_ticks says of stores holds here too. What its reset and its Specify (F0 00) set stays: PCN, the step time, DMA, and
+ * the FIFO as after power-on.
+ *
+ * What a block call returns: in bit 0 whether the command ended normally (IC 00), the refusal's number in bits 8 to 15, INT
+ * in bit 16, DRQ in bit 17. The first seven bytes of status are the command's ST0 ST1 ST2 C H R N as the controller gave
+ * them: after a block that is read or written the address is the next one, after a deleted or a bad one its own. Those
+ * behind are kept. */
+#define BEL_GOOD(word) ((int)((word)&1u))
+
+/* The refusals of a block call, in this order. Record, images, block and status stay as they were. */
+#define BEL_BLOCK_RECORD 4 /* the record, as BEL_REFUSED_RECORD */
+#define BEL_BLOCK_END 1    /* no such block: past the end, a drive above 1, or a disk whose header or length does not fit */
+#define BEL_BLOCK_SLICE 2  /* the caller's block is not B bytes */
+#define BEL_BLOCK_STATUS 3 /* fewer than seven bytes for the status */
+
+/* The blocks of a disk; 0 where header or length does not fit. */
+uint32_t bel_blocks(const uint8_t *image, size_t len);
+
+/* Reads a block of drive 0 or 1. A read that fails leaves in out the bytes that came, and the rest as it was. A deleted
+ * sector is a block too; its ST2 is 40. */
+uint32_t bel_block_read(uint8_t *record, size_t len, uint8_t *image0, size_t len0, uint8_t *image1, size_t len1,
+                        uint8_t drive, uint32_t block, uint8_t *out, size_t out_len, uint8_t *status,
+                        size_t status_len);
+
+/* Writes a block of drive 0 or 1. */
+uint32_t bel_block_write(uint8_t *record, size_t len, uint8_t *image0, size_t len0, uint8_t *image1, size_t len1,
+                         uint8_t drive, uint32_t block, const uint8_t *data, size_t data_len, uint8_t *status,
+                         size_t status_len);
+
+/* The bytes of a disk of 1 to 82 cylinders, 1 or 2 heads, 1 to 36 slots a track and N 1 to 3; 0 where a number is out of
+ * range. */
+uint32_t bel_image_size(uint8_t cylinders, uint8_t heads, uint8_t slots, uint8_t n);
+
+/* Makes such a disk, formatted: sectors 1 to S in this order on every track, their bytes fill; protect is 0 or 1. The size;
+ * 0 where a number is out of range or len is not the size, and then no byte is written. */
+uint32_t bel_image_blank(uint8_t *image, size_t len, uint8_t cylinders, uint8_t heads, uint8_t slots, uint8_t n,
+                         uint8_t protect, uint8_t fill);
+
 #ifdef __cplusplus
 }
 #endif

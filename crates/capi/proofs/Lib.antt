@@ -1,2 +1,3 @@
+pub mod BlocksLaws
 pub mod KeepLaws
 pub mod WordLaws

@@ -9,7 +9,10 @@ use Rattle.chip.specs.declared.refusal.Refusal.the-variants.{Port, Turn, Line, 
 use Rattle.chip.specs.Refusals.{numberOf}
 use Rattle.fdc.specs.declared.answer.Reply.{Reply}
 use Rattle.fdc.specs.declared.answer.Reply.the-variants.{Done, Byte, Refused}
+use Rattle.fdc.specs.declared.record.Controller.{Controller}
 use Rattle.fdc.specs.Answer.{valueOf, numberIn}
+use Rattle.fdc.specs.Registers.{intOf, drqOf}
+use Rattle.capi.specs.Blocks.{blockWord}
 use Rattle.capi.specs.Word.{wordIn}
 
 refusal-small : (f : Refusal) → numberOf f ≤ 6
@@ -48,3 +51,21 @@ word-apart reply true false h = apart (valueOf reply) (numberIn reply) 1 0 h (nu
     (omega arith)
 word-apart reply true true h = apart (valueOf reply) (numberIn reply) 1 1 h (number-small reply) (omega arith)
     (omega arith)
+
+-- 02 2026-01: a block call's word has goodness where others have the value
+block-apart : (good int drq : Bool) (number : ℕ) → number ≤ 6
+    → Apart (cond good 1 0 + 0x100 * number + cond int 0x10000 0 + cond drq 0x20000 0) (cond good 1 0) number
+    (cond int 1 0) (cond drq 1 0)
+block-apart false false false n h = apart 0 n 0 0 (omega arith) h (omega arith) (omega arith)
+block-apart false false true n h = apart 0 n 0 1 (omega arith) h (omega arith) (omega arith)
+block-apart false true false n h = apart 0 n 1 0 (omega arith) h (omega arith) (omega arith)
+block-apart false true true n h = apart 0 n 1 1 (omega arith) h (omega arith) (omega arith)
+block-apart true false false n h = apart 1 n 0 0 (omega arith) h (omega arith) (omega arith)
+block-apart true false true n h = apart 1 n 0 1 (omega arith) h (omega arith) (omega arith)
+block-apart true true false n h = apart 1 n 1 0 (omega arith) h (omega arith) (omega arith)
+block-apart true true true n h = apart 1 n 1 1 (omega arith) h (omega arith) (omega arith)
+
+pub block-word-apart : (good : Bool) (number : ℕ) (c : Controller) → number ≤ 6
+    → Apart (blockWord good number c) (cond good 1 0) number (cond (intOf c) 1 0) (cond (drqOf c) 1 0)
+unfolding blockWord
+block-word-apart good number c h = block-apart good (intOf c) (drqOf c) number h

@@ -43,7 +43,7 @@ ghost use Rattle.capi.specs.Calls.{
 ghost use Rattle.capi.specs.Word.{wordOf};
 
 // Bytes that are no record.
-const NO_RECORD: u32 = 0x400;
+pub(crate) const NO_RECORD: u32 = 0x400;
 
 fn set_in(byte: u8) -> bool
     ensures { λ r. ⌜ r ≡ setIn byte ⌝ }

@@ -8,7 +8,7 @@ ghost use mathlib.Core.Bool.{cond};
 ghost use Prim.Native.Nat.{_+_, _*_, _≤_};
 ghost use Rattle.capi.specs.Word.{wordIn, wordOf, longOf};
 
-fn line(on: bool, weight: u32) -> u32
+pub(crate) fn line(on: bool, weight: u32) -> u32
     ensures { λ r. ⌜ r ≡ cond on weight 0 ⌝ }
     ensures { λ r. ⌜ r ≤ weight ⌝ }
 {
