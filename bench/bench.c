@@ -2,7 +2,7 @@
  * each cylinder in one command (MT where there are two sides; Format by tracks), TC with the last byte; FIFO on, threshold 8.
  * The library is as the kit compiles it, at -O3; the model and this host have -O3 too, by another compiler. Time is the
  * processor's, the best of a few runs; DMA cycles and port accesses are in it: a read or write has a cycle for each tick,
- * a format few. */
+ * a format few. Then some blocks of each image by the block service, which steps out and in again for every block. */
 #include <math.h>
 #include <stdbool.h>
 #include <stdio.h>
@@ -11,8 +11,8 @@
 #include <time.h>
 
 #include "beleduritz.h"
+#include "blocks.h"
 #include "lent.h"
-#include "model.h"
 
 enum { INT_LINE = 1 << 16, DRQ_LINE = 1 << 17, RUNS = 7 };
 
@@ -30,6 +30,7 @@ struct box {
     uint32_t (*dma_write)(uint8_t byte, bool tc);
     uint32_t (*tick)(void);
     uint64_t (*ticks)(uint32_t n);
+    uint32_t (*block)(uint32_t block, bool out, uint8_t *bytes, size_t count, struct service *made);
 };
 
 static uint32_t lib_power_on(void) { return bel_power_on(record, sizeof record, 0, 0); }
@@ -44,7 +45,27 @@ static uint64_t lib_ticks(uint32_t n)
     return bel_ticks(record, sizeof record, image.bytes, image.length, lent(NULL), 0, n);
 }
 
+static uint8_t status[STATUS_BYTES];
+
+/* the library does not say what it made */
+static uint32_t lib_block(uint32_t block, bool out, uint8_t *bytes, size_t count, struct service *made)
+{
+    (void)made;
+    if (out)
+        return bel_block_write(record, sizeof record, image.bytes, image.length, lent(NULL), 0, 0, block, bytes, count, status,
+                               sizeof status);
+    return bel_block_read(record, sizeof record, image.bytes, image.length, lent(NULL), 0, 0, block, bytes, count, status,
+                          sizeof status);
+}
+
 static const struct image no_image;
+
+static uint32_t mod_block(uint32_t block, bool out, uint8_t *bytes, size_t count, struct service *made)
+{
+    if (out)
+        return model_block_write(&model, image, no_image, 0, block, bytes, count, status, sizeof status, made);
+    return model_block_read(&model, image, no_image, 0, block, bytes, count, status, sizeof status, made);
+}
 
 static uint32_t mod_power_on(void) { return model_power_on(&model, 0, 0); }
 static uint32_t mod_read_port(uint8_t offset) { return model_read_port(&model, offset); }
@@ -55,9 +76,9 @@ static uint32_t mod_tick(void) { return model_tick(&model, image, no_image); }
 static uint64_t mod_ticks(uint32_t n) { return model_ticks(&model, image, no_image, n); }
 
 static const struct box library = { lib_power_on, lib_read_port, lib_write_port, lib_dma_read, lib_dma_write, lib_tick,
-                                    lib_ticks };
+                                    lib_ticks, lib_block };
 static const struct box reference = { mod_power_on, mod_read_port, mod_write_port, mod_dma_read, mod_dma_write, mod_tick,
-                                      mod_ticks };
+                                      mod_ticks, mod_block };
 
 /* ---- the image ---- */
 
@@ -226,34 +247,86 @@ static void whole_image(struct host *h, const struct geometry *g, enum deed deed
         }
 }
 
+/* ---- the blocks ---- */
+
+enum { EVERY = 7, LONGEST_SECTOR = 1024 };
+
+struct blocks { uint32_t count, made; }; /* of the image; read or written in one run */
+
+static struct blocks blocks_of(const struct geometry *g)
+{
+    uint32_t count = (uint32_t)g->cylinders * g->sides * g->slots;
+    return (struct blocks){ count, (count + EVERY - 1) / EVERY * (count > 1 ? g->repeat : g->repeat / EVERY) };
+}
+
+static void some_blocks(struct host *h, const struct geometry *g, bool out)
+{
+    uint8_t bytes[LONGEST_SECTOR];
+    struct blocks b = blocks_of(g);
+    h->word = h->box->power_on();
+    for (uint32_t i = 0; i < b.made; i++) {
+        struct service made = { 0 };
+        if (out)
+            memset(bytes, (int)(i * 5 & 0xFF), sizeof bytes);
+        h->word = h->box->block(i * EVERY % b.count, out, bytes, (size_t)128 << g->n, &made);
+        if (!(h->word & 1))
+            fail("a block call did not end normally");
+        h->ticks += made.ticks;
+        h->cycles += made.cycles;
+        h->sum = h->sum * 31 + bytes[i & 127] + status[5];
+    }
+}
+
 /* ---- measuring ---- */
 
-static double seconds_of(struct host *h, struct image on, const struct geometry *g, enum deed deed)
+enum way { RUNS_OF_TICKS, ONE_TICK, BLOCK_CALLS, WAYS };
+
+static double seconds_of(struct host *h, struct image on, const struct geometry *g, enum deed deed, enum way way)
 {
     image = on;
     h->ticks = h->cycles = h->sum = 0;
     clock_t from = clock();
-    whole_image(h, g, deed);
+    if (way == BLOCK_CALLS)
+        some_blocks(h, g, deed == WRITE);
+    else
+        whole_image(h, g, deed);
     return (double)(clock() - from) / CLOCKS_PER_SEC;
 }
 
-static void measure(const struct geometry *g, enum deed deed, bool singly)
+static double blocks_a_second[2]; /* of the first image read: library and model */
+
+/* a block call of the library has the ticks and cycles of the model's */
+static void note_blocks(struct host *lib, const struct host *mod, double of_lib, double of_mod)
+{
+    lib->ticks = mod->ticks;
+    lib->cycles = mod->cycles;
+    if (blocks_a_second[0] > 0)
+        return;
+    blocks_a_second[0] = of_lib;
+    blocks_a_second[1] = of_mod;
+}
+
+static void measure(const struct geometry *g, enum deed deed, enum way way)
 {
     static const char *deeds[3] = { "read", "write", "format" };
+    static const char *ways[WAYS] = { "runs of ticks", "one tick", "block calls" };
+    bool singly = way == ONE_TICK;
     struct host lib = { .box = &library, .singly = singly }, mod = { .box = &reference, .singly = singly };
     double lib_seconds = 1e9, mod_seconds = 1e9;
     struct image lib_image = make_image(g), mod_image = make_image(g);
     /* by turns, so that a machine that is busy for a while is so for both */
     for (unsigned i = 0; i < RUNS; i++) {
-        lib_seconds = fmin(lib_seconds, seconds_of(&lib, lib_image, g, deed));
-        mod_seconds = fmin(mod_seconds, seconds_of(&mod, mod_image, g, deed));
+        lib_seconds = fmin(lib_seconds, seconds_of(&lib, lib_image, g, deed, way));
+        mod_seconds = fmin(mod_seconds, seconds_of(&mod, mod_image, g, deed, way));
     }
+    if (way == BLOCK_CALLS)
+        note_blocks(&lib, &mod, blocks_of(g).made / lib_seconds, blocks_of(g).made / mod_seconds);
     if (lib.ticks != mod.ticks || lib.sum != mod.sum || memcmp(mod_image.bytes, lib_image.bytes, lib_image.length) != 0)
         fail("library and model do not agree");
     free(mod_image.bytes);
     free(lib_image.bytes);
     printf("| %-11s | %-6s | %-13s | %9lu | %9lu | %12.1f | %10.1f | %5.2f |\n", g->name, deeds[deed],
-           singly ? "one tick" : "runs of ticks", lib.ticks, lib.cycles, (double)lib.ticks / lib_seconds / 1e6,
+           ways[way], lib.ticks, lib.cycles, (double)lib.ticks / lib_seconds / 1e6,
            (double)mod.ticks / mod_seconds / 1e6, lib_seconds / mod_seconds);
     fflush(stdout);
 }
@@ -264,11 +337,13 @@ int main(int argc, char **argv)
     const struct geometry disks[2] = { { 80, 2, 18, 2, "80/2/18/N 2", times }, { 1, 1, 1, 1, "1/1/1/N 1", 5760 * times } };
     printf("| image       | DMA    | called by     | ticks     | cycles    | library, M/s | model, M/s | ratio |\n");
     printf("|---|---|---|---|---|---|---|---|\n");
-    for (unsigned singly = 0; singly < 2; singly++)
+    for (enum way way = RUNS_OF_TICKS; way < WAYS; way++)
         for (unsigned d = 0; d < 2; d++)
-            for (enum deed deed = READ; deed <= FORMATTING; deed++)
-                measure(&disks[d], deed, singly);
+            for (enum deed deed = READ; deed <= (way == BLOCK_CALLS ? WRITE : FORMATTING); deed++)
+                measure(&disks[d], deed, way);
     printf("M/s: million ticks a second; ratio: the library's time to the model's. A record has %u bytes, the model's %u.\n",
            (unsigned)bel_record_size(), (unsigned)sizeof(struct model));
+    printf("Blocks read a second, %s, every %u-th in order: %.0f by the library, %.0f by the model.\n", disks[0].name, EVERY,
+           blocks_a_second[0], blocks_a_second[1]);
     return 0;
 }

@@ -1,25 +1,13 @@
 #include "cover.h"
 
 #include <stdio.h>
-#include <string.h>
 
-enum { ROWS = 400 };
+#include "cover_blocks.h"
+#include "rows.h"
 
-static struct { const char *group, *name; unsigned long hits; } rows[ROWS];
-static unsigned row_count;
+static struct rows rows;
 
-/* Rows are met in the same order at every call, so a row is known by its place. */
-static unsigned place;
-
-static void row(const char *group, const char *name, bool met)
-{
-    if (place == row_count && row_count < ROWS) {
-        rows[place].group = group;
-        rows[place].name = name;
-        row_count++;
-    }
-    rows[place++].hits += met;
-}
+static void row(const char *group, const char *name, bool met) { rows_count(&rows, group, name, met); }
 
 /* ---- the end of an execution ---- */
 
@@ -367,8 +355,12 @@ static void watch_end(const struct moment *t, const struct ending *e)
 
 void cover_watch(const struct moment *t)
 {
+    if (t->made) {
+        cover_block(t);
+        return;
+    }
     struct ending e = ending_of(t);
-    place = 0;
+    rows.place = 0;
     watch_end(t, &e);
     read_rows("Read Data", &e, READ_DATA);
     read_rows("Read Deleted", &e, READ_DELETED);
@@ -396,6 +388,7 @@ void cover_event(const struct world *w, const struct event *e)
 {
     const struct model *m = &w->model;
     bool exec = m->phase == EXECUTING;
+    cover_block_event(w, e);
     if (e->call == SWAP || e->call == POKE)
         left_alone = false;
     deeds[0].hits += e->call == SWAP && exec;
@@ -408,15 +401,7 @@ void cover_event(const struct world *w, const struct event *e)
 
 unsigned cover_print(void)
 {
-    const char *group = "";
-    unsigned never = 0;
-    for (unsigned i = 0; i < row_count; i++) {
-        if (strcmp(group, rows[i].group) != 0)
-            printf("%s\n", rows[i].group);
-        group = rows[i].group;
-        printf("%10lu  %s%s\n", rows[i].hits, rows[i].name, rows[i].hits == 0 ? "   NEVER MET" : "");
-        never += rows[i].hits == 0;
-    }
+    unsigned never = rows_print(&rows) + cover_blocks_print();
     printf("The host\n");
     for (unsigned i = 0; i < sizeof deeds / sizeof deeds[0]; i++) {
         printf("%10lu  %s%s\n", deeds[i].hits, deeds[i].name, deeds[i].hits == 0 ? "   NEVER MET" : "");

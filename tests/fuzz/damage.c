@@ -8,7 +8,7 @@
 #include "lent.h"
 #include "chance.h"
 
-static unsigned long tried, refused, short_tried;
+static unsigned long tried, refused, short_tried, blocks_tried, blocks_refused;
 
 static void spoil(uint8_t *bytes, size_t size)
 {
@@ -30,6 +30,44 @@ static void spoil(uint8_t *bytes, size_t size)
     }
     if (chance(900)) /* another version is refused before anything else is asked */
         bytes[0] = version;
+}
+
+/* what a block call is lent besides: the block and its status */
+enum { BLOCK, STATUS, BESIDES };
+
+static uint32_t any_block_call(uint8_t *record, size_t len, const struct image *i, const struct image *b, uint8_t drive)
+{
+    uint8_t *image0 = lent(i[0].bytes), *image1 = lent(i[1].bytes);
+    uint32_t block = below(16);
+    if (chance(500))
+        return bel_block_read(record, len, image0, i[0].length, image1, i[1].length, drive, block, b[BLOCK].bytes,
+                              b[BLOCK].length, b[STATUS].bytes, b[STATUS].length);
+    return bel_block_write(record, len, image0, i[0].length, image1, i[1].length, drive, block, b[BLOCK].bytes,
+                           b[BLOCK].length, b[STATUS].bytes, b[STATUS].length);
+}
+
+/* refused, whatever the number: block and status too are as they were */
+static const char *block_call_on(struct image record, size_t len, struct image *images, uint32_t *word)
+{
+    uint8_t bytes[1024];
+    memset(bytes, 0xA7, sizeof bytes);
+    uint8_t drive = (uint8_t)below(chance(900) ? 2 : 4);
+    bool good = drive < 2 && model_blocks(images[drive]) > 0;
+    size_t size = good && chance(950) ? (size_t)128 << images[drive].bytes[3 + SIZE_N] : below(sizeof bytes + 1);
+    struct image besides[BESIDES] = { image_guarded((struct image){ bytes, size }),
+                                      image_guarded((struct image){ bytes, chance(900) ? 7 : below(10) }) };
+    *word = any_block_call(record.bytes, len, images, besides, drive);
+    bool changed = false, guarded = true;
+    for (unsigned k = 0; k < BESIDES; k++) {
+        changed = changed || (besides[k].length > 0 && memcmp(besides[k].bytes, bytes, besides[k].length) != 0);
+        guarded = guarded && image_guard_holds(besides[k]);
+        image_free_guarded(besides[k]);
+    }
+    blocks_tried++;
+    blocks_refused += (*word >> 8 & 0xFF) == 4;
+    if (!guarded)
+        return "a block call on a damaged record wrote outside what it was lent";
+    return (*word >> 8 & 0xFF) != 0 && changed ? "a refused block call changed the block or its status" : NULL;
 }
 
 /* the whole of bel_ticks' word: a refusal has made no tick */
@@ -61,7 +99,10 @@ static const char *calls_on(struct image record, size_t len, struct image *lent)
     for (unsigned i = 0; i < 6; i++) {
         struct image was = image_copy(record);
         struct image before[2] = { image_copy(lent[0]), image_copy(lent[1]) };
-        uint64_t word = any_library_call(record.bytes, len, lent);
+        uint32_t answer = 0;
+        bool block = chance(150);
+        const char *wrong = block ? block_call_on(record, len, lent, &answer) : NULL;
+        uint64_t word = block ? answer : any_library_call(record.bytes, len, lent);
         bool four = (word >> 8 & 0xFF) == 4;
         bool unchanged = same(was, record) && same(before[0], lent[0]) && same(before[1], lent[1]);
         bool guarded = image_guard_holds(record) && image_guard_holds(lent[0]) && image_guard_holds(lent[1]);
@@ -70,6 +111,8 @@ static const char *calls_on(struct image record, size_t len, struct image *lent)
         free(before[1].bytes);
         tried++;
         refused += four;
+        if (wrong)
+            return wrong;
         if (!guarded)
             return "a call on a damaged record wrote outside what it was lent";
         if (four && !unchanged)
@@ -118,4 +161,5 @@ void damage_print(void)
 {
     printf("Damaged records\n%10lu  calls\n%10lu  answered by refusal 4\n%10lu  records of too few bytes\n", tried, refused,
            short_tried);
+    printf("%10lu  block calls among them\n%10lu  answered by refusal 4\n", blocks_tried, blocks_refused);
 }

@@ -58,10 +58,16 @@ static const char *out_folder(void)
 static void report(const struct episode *e, unsigned long calls)
 {
     struct episode small = *e;
+    small.events = malloc(e->count * sizeof *e->events);
+    if (!small.events)
+        abort();
+    memcpy(small.events, e->events, e->count * sizeof *e->events);
+    small.room = e->count;
     printf("fuzz: a difference after %lu calls, in an episode of %lu events; shrinking\n", calls, (unsigned long)e->count);
     fflush(stdout);
     episode_shrink(&small);
     episode_write(&small, out_folder());
+    free(small.events);
 }
 
 /* one episode; false: something was wrong and has been told */

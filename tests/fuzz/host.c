@@ -4,7 +4,11 @@
 
 #include "chance.h"
 
-static struct event event(enum call call, uint8_t a, uint8_t b, uint32_t n) { return (struct event){ call, a, b, n }; }
+static struct event event(enum call call, uint8_t a, uint8_t b, uint32_t n)
+{
+    return (struct event){ .call = call, .a = a, .b = b, .n = n };
+}
+
 static struct event read_port(uint8_t offset) { return event(READ_PORT, offset, 0, 0); }
 static struct event write_port(uint8_t offset, uint8_t byte) { return event(WRITE_PORT, offset, byte, 0); }
 static struct event tick(uint32_t n) { return event(TICK, 0, 0, n); }
@@ -12,6 +16,8 @@ static struct event ticks(uint32_t n) { return event(TICKS, 0, 0, n); }
 
 static bool from_host(enum command c) { return c == WRITE_DATA || c == WRITE_DELETED || c == FORMAT; }
 static bool gate_on(const struct model *m) { return m->dor & 0x08; }
+
+enum { MANY_BLOCKS = 50 }; /* in 1000: few episodes have so many, since a block call ends what goes on */
 
 static bool any_report(const struct model *m)
 {
@@ -42,14 +48,16 @@ struct event host_first_event(struct host *h, bool far)
 {
     static const uint16_t noises[20] = { 0, 0, 0, 0, 0, 0, 0, 0, 0, 0, 0, 0, 0, 2, 2, 2, 2, 10, 30, 300 };
     static const uint16_t disturbances[10] = { 0, 0, 0, 0, 0, 1, 1, 2, 3, 12 };
+    static const uint16_t rates[5] = { 0, 0, 0, 2, MANY_BLOCKS };
     memset(h, 0, sizeof *h);
     h->noise = noises[below(20)];
     h->disturb = disturbances[below(10)];
     h->non_dma = chance(350);
     h->to_configure = 2;
     h->far = far;
+    h->blocks = rates[below(5)];
     if (far)
-        h->noise = h->disturb = 0;
+        h->noise = h->disturb = h->blocks = 0;
     h->power_on = event(POWER_ON, far ? (uint8_t)between(78, LAST_HEAD) : any_head(), any_head(), 0);
     h->again = chance(300);
     return h->again ? event(POWER_ON, edge_head(), edge_head(), 0) : h->power_on;
@@ -63,7 +71,7 @@ static void plan_service(struct host *h, unsigned sector, unsigned sectors)
     uint32_t k = below(100);
     h->moved = 0;
     h->sector = sector;
-    h->pause = chance(820) ? 0 : chance(300) ? 63 : between(chance(700) ? 40 : 1, 63);
+    h->pause = chance(780) ? 0 : chance(300) ? 63 : between(chance(700) ? 40 : 1, 63);
     h->serve = k < 6 ? between(500, 990) : k < 8 ? 0 : 1000;
     h->stops = 1u << 30;
     if (k >= 87) /* nothing more from somewhere on, or when a sector's last bytes are in the FIFO of a read */
@@ -451,6 +459,62 @@ static struct event disturbance(const struct world *w)
     }
 }
 
+/* ---- block calls ---- */
+
+/* a drive whose image has blocks, mostly */
+static uint8_t block_drive(const struct world *w)
+{
+    uint8_t first = (uint8_t)below(2);
+    if (chance(25))
+        return chance(700) ? (uint8_t)between(2, 3) : any_byte();
+    if (chance(60) || model_blocks(w->ours[first]) > 0)
+        return first;
+    return first ^ 1;
+}
+
+static uint32_t any_block(uint32_t blocks)
+{
+    uint32_t k = below(100);
+    if (blocks == 0)
+        return below(8);
+    return k < 90 ? below(blocks) : k < 95 ? blocks - 1 : k < 97 ? blocks : k < 98 ? blocks + below(9) : below(0xFFFFFFFF);
+}
+
+static uint16_t wrong_slice(uint16_t size)
+{
+    const uint16_t sizes[6] = { 0, (uint16_t)(size - 1), (uint16_t)(size + 1), size / 2, (uint16_t)(2 * size),
+                                (uint16_t)below(3000) };
+    return sizes[below(6)];
+}
+
+static struct event block_of(const struct world *w, uint8_t drive)
+{
+    uint32_t blocks = drive < 2 ? model_blocks(w->ours[drive]) : 0;
+    uint16_t size = blocks ? (uint16_t)(128u << w->ours[drive].bytes[3 + SIZE_N]) : 256;
+    struct event e = event(chance(550) ? BLOCK_READ : BLOCK_WRITE, drive, any_byte(), any_block(blocks));
+    bool wrong = chance(30); /* in several ways at once */
+    e.slice = chance(wrong ? 500 : 25) ? wrong_slice(size) : size;
+    e.status = (uint16_t)(chance(wrong ? 500 : 20) ? (chance(500) ? 6 : below(7)) : chance(700) ? 7 : between(8, 20));
+    if (wrong && chance(500))
+        e.n = blocks + below(3);
+    return e;
+}
+
+/* Looks at the registers behind it; and now and then the heads stand far out before it. */
+static struct event block_call(struct host *h, const struct world *w)
+{
+    struct event e = block_of(w, block_drive(w));
+    h->plans = below(4);
+    for (unsigned i = 0; i < h->plans; i++)
+        h->planned[i] = read_port((uint8_t)(chance(300) ? 7 : between(2, 4)));
+    h->to_configure = chance(700) ? 2 : 0;
+    if (!chance(30))
+        return e;
+    h->planned[0] = e;
+    h->plans = 1;
+    return event(POWER_ON, (uint8_t)between(79, LAST_HEAD), (uint8_t)between(79, LAST_HEAD), 0);
+}
+
 /* ---- what it does, by the phase that the controller is in ---- */
 
 static uint8_t data_byte(const struct host *h, const struct model *m)
@@ -500,6 +564,8 @@ static struct event while_executing(struct host *h, const struct world *w)
     const struct model *m = &w->model;
     if (chance(h->disturb))
         return disturbance(w);
+    if (h->blocks > 0 && m->execution.stage == DRAINING && m->fifo.count > 0 && chance(25)) /* it does not last long */
+        return block_call(h, w);
     if (chance(20))
         return read_port(4);
     if (!gate_on(m) && chance(100))
@@ -585,8 +651,12 @@ struct event host_next_event(struct host *h, const struct world *w)
         h->again = false;
         return h->power_on;
     }
+    if (h->plans > 0)
+        return h->planned[--h->plans];
     if (chance(h->noise))
         return any_call();
+    if (h->blocks > 0 && chance(h->blocks))
+        return block_call(h, w);
     if (!(m->dor & 0x04))
         return while_held(h, m);
     switch (m->phase) {

@@ -20,6 +20,9 @@ struct host {
     bool again;
     bool far;                   /* an episode of far steps, and the commands of it sent so far */
     unsigned far_sent;
+    unsigned blocks;            /* in 1000: a block call */
+    struct event planned[3];    /* what it does next, the last one first */
+    unsigned plans;
 };
 
 struct event host_first_event(struct host *h, bool far);

@@ -116,6 +116,14 @@ static void put_track(uint8_t *track, const uint8_t *header, uint8_t c, uint8_t 
     }
 }
 
+/* two slots of a track with one address, each with its own mark and bytes */
+static void double_address(uint8_t *track, const uint8_t *header)
+{
+    size_t slot = 5 + ((size_t)128 << header[SIZE_N]);
+    unsigned one = below(header[SLOTS]), other = below(header[SLOTS]);
+    memcpy(track + 5 + one * slot + 1, track + 5 + other * slot + 1, 4);
+}
+
 /* ---- whole images ---- */
 
 static struct image make_laid_out(const uint8_t *header, bool plain)
@@ -130,6 +138,8 @@ static struct image make_laid_out(const uint8_t *header, bool plain)
     for (unsigned c = 0; c < header[CYLINDERS]; c++)
         for (unsigned h = 0; h < header[HEADS]; h++) {
             put_track(track, header, (uint8_t)c, (uint8_t)h, plain ? SOUND : any_kind());
+            if (!plain && chance(50))
+                double_address(track, header);
             track += model_track_size(header);
         }
     put_tag(track, 3, 0);

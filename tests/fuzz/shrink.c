@@ -8,7 +8,7 @@
 
 /* calls that shrinking may still make: a log that stays long is not worth minutes */
 static unsigned long budget;
-enum { SHRINK_CALLS = 5000000, TC_TRIES = 48 };
+enum { SHRINK_CALLS = 5000000, TC_TRIES = 48, INSIDE_A_CALL = 4 };
 
 struct difference episode_play(const struct episode *e, size_t *at)
 {
@@ -22,9 +22,20 @@ struct difference episode_play(const struct episode *e, size_t *at)
             break;
     }
     *at = i;
-    budget -= w.calls < budget ? w.calls : budget;
+    unsigned long made = w.calls + w.inside / INSIDE_A_CALL;
+    budget -= made < budget ? made : budget;
     world_close(&w);
     return d;
+}
+
+static void make_room(struct episode *e, size_t count)
+{
+    if (count <= e->room)
+        return;
+    e->room = 2 * count;
+    e->events = realloc(e->events, e->room * sizeof *e->events);
+    if (!e->events)
+        abort();
 }
 
 /* If the candidate still differs, it takes the episode's place, cut off behind the call that shows it. */
@@ -34,6 +45,7 @@ static bool keep_if_differs(struct episode *e, struct episode *candidate)
     bool differs = candidate->count > 0 && budget > 0 && episode_play(candidate, &at).found;
     if (differs) {
         candidate->count = at + 1;
+        make_room(e, candidate->count);
         memcpy(e->events, candidate->events, candidate->count * sizeof *e->events);
         e->count = candidate->count;
         memcpy(e->start, candidate->start, sizeof e->start);
@@ -45,9 +57,9 @@ static bool keep_if_differs(struct episode *e, struct episode *candidate)
 static struct episode copy_of(const struct episode *e)
 {
     struct episode c = *e;
-    c.events = malloc(e->count * sizeof *e->events);
-    if (!c.events)
-        abort();
+    c.events = NULL;
+    c.room = 0;
+    make_room(&c, e->count);
     memcpy(c.events, e->events, e->count * sizeof *e->events);
     return c;
 }
@@ -115,12 +127,54 @@ static void single_ticks(struct episode *e)
         unsigned long before = w.ticks;
         world_play(&w, &e->events[i], NULL);
         if (e->events[i].call == TICKS)
-            c.events[i] = (struct event){ TICK, 0, 0, (uint32_t)(w.ticks - before) };
+            c.events[i] = (struct event){ .call = TICK, .n = (uint32_t)(w.ticks - before) };
     }
     world_close(&w);
     if (keep_if_differs(e, &c))
         merge_ticks(e);
     free(c.events);
+}
+
+static bool is_block(const struct event *e) { return e->call == BLOCK_READ || e->call == BLOCK_WRITE; }
+
+static struct event plain_event(struct plain_call p)
+{
+    static const enum call calls[5] = { [PLAIN_READ] = READ_PORT, [PLAIN_WRITE] = WRITE_PORT, [PLAIN_DMA_READ] = DMA_READ,
+                                        [PLAIN_DMA_WRITE] = DMA_WRITE, [PLAIN_TICK] = TICK };
+    return (struct event){ .call = calls[p.call], .a = p.a, .b = p.b, .n = p.call == PLAIN_TICK };
+}
+
+static void append(struct episode *e, struct event event)
+{
+    make_room(e, e->count + 1);
+    e->events[e->count++] = event;
+}
+
+static void append_plain(void *episode, struct plain_call p) { append(episode, plain_event(p)); }
+
+/* Each block call becomes the calls that the model's request makes. Where they differ too, it is not the service that is
+ * wrong but a call under it. */
+static bool plain_blocks(struct episode *e)
+{
+    struct episode c = *e;
+    struct world w;
+    bool any = false;
+    c.count = c.room = 0;
+    c.events = NULL;
+    world_open(&w, e);
+    w.each = append_plain;
+    w.whose = &c;
+    for (size_t i = 0; i < e->count; i++) {
+        if (!is_block(&e->events[i]))
+            append(&c, e->events[i]);
+        any = any || is_block(&e->events[i]);
+        world_play(&w, &e->events[i], NULL);
+    }
+    world_close(&w);
+    merge_ticks(&c);
+    bool kept = any && keep_if_differs(e, &c);
+    free(c.events);
+    return kept;
 }
 
 /* an image that the host mounts later is there from the start */
@@ -234,10 +288,13 @@ void episode_shrink(struct episode *e)
     drop_all_of(e, SWAP);
     mounted_from_the_start(e);
     drop_all_of(e, POKE);
+    drop_all_of(e, BLOCK_READ);
+    drop_all_of(e, BLOCK_WRITE);
     single_ticks(e);
     bool smaller = true;
     for (unsigned round = 0; smaller && round < 8; round++) {
         smaller = earlier_tc(e);
+        smaller = (round > 0 && plain_blocks(e)) || smaller;
         merge_ticks(e);
         for (size_t chunk = e->count / 2; chunk > 0; chunk /= 2)
             smaller = drop_chunks(e, chunk) || smaller;
@@ -282,6 +339,12 @@ static void print_event(FILE *f, const struct event *e, uint32_t word)
     case TICKS:
         fprintf(f, "# by one bel_ticks:\nt %u\n", (unsigned)e->n);
         break;
+    case BLOCK_READ:
+    case BLOCK_WRITE:
+        fprintf(f, "# by one bel_block_%s of drive %u, block %u, %u bytes lent and %u for the status%s\n",
+                e->call == BLOCK_READ ? "read" : "write", e->a, (unsigned)e->n, e->slice, e->status,
+                refused ? ": refused" : ", these calls:");
+        break;
     case SWAP:
         fprintf(f, "# here the host changes the image of drive %u to pool image %u\n", e->a, (unsigned)e->n);
         break;
@@ -298,7 +361,7 @@ static void print_difference(FILE *f, const struct difference *d)
     fprintf(f, "# %s differs", d->what);
     if (d->ticks)
         fprintf(f, " after %u ticks of this line", (unsigned)d->ticks);
-    if (strncmp(d->what, "image", 5) == 0) {
+    if (strncmp(d->what, "image", 5) == 0 || strcmp(d->what, "status") == 0 || strcmp(d->what, "block") == 0) {
         fprintf(f, ", offset %u: model %02X, library %02X\n", (unsigned)(d->model >> 8), (unsigned)(d->model & 0xFF),
                 (unsigned)(d->library & 0xFF));
         return;
@@ -318,19 +381,52 @@ static void print_difference(FILE *f, const struct difference *d)
 static uint32_t last_answer;
 static void remember(const struct moment *t) { last_answer = t->word; }
 
+/* the calls of one block, and their answers on the model */
+struct heard { struct episode calls; uint32_t *words; };
+
+static void hear(void *heard, struct plain_call p)
+{
+    struct heard *h = heard;
+    append(&h->calls, plain_event(p));
+    h->words = realloc(h->words, h->calls.room * sizeof *h->words);
+    if (!h->words)
+        abort();
+    h->words[h->calls.count - 1] = p.word;
+}
+
+static void print_heard(FILE *f, struct heard *h)
+{
+    const struct event *events = h->calls.events;
+    for (size_t i = 0; i < h->calls.count; i++) {
+        struct event e = events[i];
+        for (; e.call == TICK && i + 1 < h->calls.count && events[i + 1].call == TICK; i++)
+            e.n++;
+        print_event(f, &e, h->words[i]);
+    }
+    if (h->calls.count > 0)
+        fprintf(f, "# so far that block\n");
+    h->calls.count = 0;
+}
+
 static void print_log(FILE *f, const struct episode *e)
 {
     struct world w;
+    struct heard heard = { 0 };
     world_open(&w, e);
+    w.each = hear;
+    w.whose = &heard;
     fprintf(f, "# drive 0: %s, drive 1: %s\n", e->start[0].length ? "an image" : "no image",
             e->start[1].length ? "an image" : "no image");
     for (size_t i = 0; i < e->count; i++) {
         last_answer = 0;
         struct difference d = world_play(&w, &e->events[i], remember);
         print_event(f, &e->events[i], last_answer);
+        print_heard(f, &heard);
         print_difference(f, &d);
     }
     world_close(&w);
+    free(heard.calls.events);
+    free(heard.words);
 }
 
 static void write_image(const char *folder, unsigned drive, struct image image)

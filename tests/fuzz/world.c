@@ -130,7 +130,7 @@ static uint32_t watched_model_answer(struct world *w, const struct event *e, wat
         return model_answers(w, e);
     struct model before = w->model;
     uint32_t word = model_answers(w, e);
-    watch(&(struct moment){ &before, &w->model, e, word });
+    watch(&(struct moment){ .before = &before, .after = &w->model, .event = e, .word = word });
     return word;
 }
 
@@ -220,6 +220,105 @@ static struct difference play_ticks_at_once(struct world *w, const struct event 
     return d.found ? d : compare_images(w, made);
 }
 
+/* ---- block calls ---- */
+
+/* what a block call is lent: the block and the status, once for the model and once for the library */
+struct lent_block { struct image slice, status; };
+
+/* bytes that tell where they stand, so that one kept, cleared or given in a wrong place shows */
+static struct image patterned(size_t length, uint8_t start)
+{
+    struct image image = { guarded(NULL, length), length };
+    for (size_t i = 0; i < length; i++)
+        image.bytes[i] = (uint8_t)(start + i * 7 + (i >> 8));
+    return image;
+}
+
+static struct lent_block lend_block(const struct event *e)
+{
+    return (struct lent_block){ patterned(e->slice, e->b), patterned(e->status, (uint8_t)~e->b) };
+}
+
+static void take_back(struct lent_block *l)
+{
+    image_free_guarded(l->slice);
+    image_free_guarded(l->status);
+}
+
+static uint32_t model_serves(struct world *w, const struct event *e, struct lent_block *l, struct service *made)
+{
+    if (e->call == BLOCK_READ)
+        return model_block_read(&w->model, w->ours[0], w->ours[1], e->a, e->n, l->slice.bytes, l->slice.length,
+                                l->status.bytes, l->status.length, made);
+    return model_block_write(&w->model, w->ours[0], w->ours[1], e->a, e->n, l->slice.bytes, l->slice.length,
+                             l->status.bytes, l->status.length, made);
+}
+
+static uint32_t library_serves(struct world *w, const struct event *e, struct lent_block *l)
+{
+    uint8_t *image0 = lent(w->lent[0].bytes), *image1 = lent(w->lent[1].bytes);
+    if (e->call == BLOCK_READ)
+        return bel_block_read(w->record, w->len, image0, w->lent[0].length, image1, w->lent[1].length, e->a, e->n,
+                              l->slice.bytes, l->slice.length, l->status.bytes, l->status.length);
+    return bel_block_write(w->record, w->len, image0, w->lent[0].length, image1, w->lent[1].length, e->a, e->n,
+                           l->slice.bytes, l->slice.length, l->status.bytes, l->status.length);
+}
+
+static struct difference compare_bytes(const char *what, struct image model, struct image library)
+{
+    if (!guard_holds(library.bytes, library.length))
+        return differs("bytes around a block or its status", 0, 0, 0);
+    for (size_t i = 0; i < model.length; i++)
+        if (model.bytes[i] != library.bytes[i])
+            return differs(what, (uint32_t)i << 8 | model.bytes[i], (uint32_t)i << 8 | library.bytes[i], 0);
+    return none;
+}
+
+static struct difference compare_blocks(const struct world *w)
+{
+    for (unsigned d = 0; d < 2; d++) {
+        uint32_t model = model_blocks(w->ours[d]), library = bel_blocks(lent(w->lent[d].bytes), w->lent[d].length);
+        if (model != library)
+            return differs("blocks of an image", model, library, 0);
+    }
+    return none;
+}
+
+static struct difference compare_lent(const struct world *w, const struct lent_block *ours, const struct lent_block *theirs)
+{
+    struct difference d = compare_bytes("status", ours->status, theirs->status);
+    if (!d.found)
+        d = compare_bytes("block", ours->slice, theirs->slice);
+    if (!d.found)
+        d = compare_images(w, 0);
+    return d.found ? d : compare_blocks(w);
+}
+
+/* refused: the record's bytes as they were; the model has left image, block and status so */
+static struct difference play_block(struct world *w, const struct event *e, watcher watch)
+{
+    struct lent_block ours = lend_block(e), theirs = lend_block(e);
+    struct service made = { .each = w->each, .whose = w->whose };
+    struct model before = w->model;
+    uint8_t record[512];
+    memcpy(record, w->record, w->record_size);
+    uint32_t model = model_serves(w, e, &ours, &made);
+    uint32_t library = library_serves(w, e, &theirs);
+    if (watch)
+        watch(&(struct moment){ &before, &w->model, e, model, ours.status.bytes, &made });
+    w->calls++;
+    w->ticks += made.ticks;
+    w->inside += made.calls;
+    struct difference d = compare_words(w, model, library, 0);
+    if (!d.found && library >> 8 & 0xFF && memcmp(record, w->record, w->record_size) != 0)
+        d = differs("record after a refusal", model, library, 0);
+    if (!d.found)
+        d = compare_lent(w, &ours, &theirs);
+    take_back(&ours);
+    take_back(&theirs);
+    return d;
+}
+
 static void poke(struct world *w, const struct event *e)
 {
     if (e->n < w->ours[e->a].length)
@@ -239,6 +338,9 @@ struct difference world_play(struct world *w, const struct event *e, watcher wat
         return play_ticks_one_by_one(w, e, watch);
     case TICKS:
         return play_ticks_at_once(w, e, watch);
+    case BLOCK_READ:
+    case BLOCK_WRITE:
+        return play_block(w, e, watch);
     default:
         return play_call(w, e, watch);
     }

@@ -2,13 +2,16 @@
 #ifndef WORLD_H
 #define WORLD_H
 
-#include "model.h"
+#include "blocks.h"
 
-/* The seven calls, a run of bel_ticks, and what a host may do to an image between two ticks. */
-enum call { POWER_ON, READ_PORT, WRITE_PORT, DMA_READ, DMA_WRITE, NOTE_CHANGE, TICK, TICKS, SWAP, POKE };
+/* The seven calls, a run of bel_ticks, the two block calls, and what a host may do to an image between two ticks. */
+enum call {
+    POWER_ON, READ_PORT, WRITE_PORT, DMA_READ, DMA_WRITE, NOTE_CHANGE, TICK, TICKS, BLOCK_READ, BLOCK_WRITE, SWAP, POKE
+};
 
-/* a, b: heads; offset and byte; TC; byte and TC; drive. n: ticks, the image of the pool, or the offset in an image */
-struct event { enum call call; uint8_t a, b; uint32_t n; };
+/* a, b: heads; offset and byte; TC; byte and TC; drive; drive and what the bytes of a block begin with. n: ticks, the block,
+ * the image of the pool, or the offset in an image. slice, status: bytes lent to a block call */
+struct event { enum call call; uint8_t a, b; uint32_t n; uint16_t slice, status; };
 
 enum { POOL = 6 };
 
@@ -30,7 +33,10 @@ struct world {
     struct image lent[2];   /* and as the library does */
     uint8_t *record;
     size_t record_size, len; /* bytes of a record; bytes lent for it */
-    unsigned long calls, ticks; /* made on the library; a bel_ticks is one call and as many ticks as it made */
+    unsigned long calls, ticks; /* made on the library; a bel_ticks or a block is one call and as many ticks as it made */
+    unsigned long inside;       /* calls that the blocks stood for, */
+    void (*each)(void *whose, struct plain_call call); /* and who hears of them on the model */
+    void *whose;
 };
 
 struct difference {
@@ -40,8 +46,14 @@ struct difference {
     uint32_t ticks;         /* ticks of the event until it showed */
 };
 
-/* what a call did to the model, for whoever counts */
-struct moment { const struct model *before, *after; const struct event *event; uint32_t word; };
+/* what a call did to the model, for whoever counts; of a block call also its status bytes and what it made */
+struct moment {
+    const struct model *before, *after;
+    const struct event *event;
+    uint32_t word;
+    const uint8_t *status;
+    const struct service *made;
+};
 typedef void (*watcher)(const struct moment *);
 
 struct image image_copy(struct image image);

@@ -1,5 +1,5 @@
-/* The library's interface on top of the model: a stand-in that the tests are themselves tested with. The model is compiled
- * into this file a second time, under other names, so that a wrong copy of it can stand beside the right one.
+/* The library's interface on top of the model: a stand-in that the tests are themselves tested with. The model and its block
+ * service are compiled into this file a second time, under other names, so that a wrong copy can stand beside the right one.
  *
  * A record is the model's struct and a checksum behind it; bytes with another checksum are no record. */
 #define model_power_on    shim_power_on
@@ -13,7 +13,14 @@
 #define model_msr         shim_msr
 #define model_image_good  shim_image_good
 #define model_track_size  shim_track_size
+#define model_blocks      shim_blocks
+#define model_block_place shim_block_place
+#define model_block_read  shim_block_read
+#define model_block_write shim_block_write
+#define model_image_size  shim_image_size
+#define model_image_blank shim_image_blank
 #include "model.c"
+#include "blocks.c"
 
 #include "beleduritz.h"
 
@@ -102,4 +109,35 @@ uint64_t bel_ticks(uint8_t *record, size_t len, uint8_t *image0, size_t len0, ui
     uint64_t word = model_ticks(&m, (struct image){ image0, len0 }, (struct image){ image1, len1 }, n);
     store(&m, record);
     return word;
+}
+
+/* ---- the block service ---- */
+
+uint32_t bel_blocks(const uint8_t *image, size_t len) { return model_blocks((struct image){ (uint8_t *)image, len }); }
+
+uint32_t bel_block_read(uint8_t *record, size_t len, uint8_t *image0, size_t len0, uint8_t *image1, size_t len1,
+                        uint8_t drive, uint32_t block, uint8_t *out, size_t out_len, uint8_t *status, size_t status_len)
+{
+    struct image lent[2] = { { image0, len0 }, { image1, len1 } };
+    ANSWERED(model_block_read(&m, lent[0], lent[1], drive, block, out, out_len, status, status_len, NULL));
+}
+
+uint32_t bel_block_write(uint8_t *record, size_t len, uint8_t *image0, size_t len0, uint8_t *image1, size_t len1,
+                         uint8_t drive, uint32_t block, const uint8_t *data, size_t data_len, uint8_t *status,
+                         size_t status_len)
+{
+    struct image lent[2] = { { image0, len0 }, { image1, len1 } };
+    ANSWERED(model_block_write(&m, lent[0], lent[1], drive, block, data, data_len, status, status_len, NULL));
+}
+
+uint32_t bel_image_size(uint8_t cylinders, uint8_t heads, uint8_t slots, uint8_t n)
+{
+    return model_image_size(cylinders, heads, slots, n);
+}
+
+uint32_t bel_image_blank(uint8_t *image, size_t len, uint8_t cylinders, uint8_t heads, uint8_t slots, uint8_t n,
+                         uint8_t protect, uint8_t fill)
+{
+    const uint8_t header[HEADER_BYTES] = { cylinders, heads, slots, n, protect };
+    return model_image_blank((struct image){ image, len }, header, fill);
 }
