@@ -138,7 +138,7 @@ static struct image make_laid_out(const uint8_t *header, bool plain)
     for (unsigned c = 0; c < header[CYLINDERS]; c++)
         for (unsigned h = 0; h < header[HEADS]; h++) {
             put_track(track, header, (uint8_t)c, (uint8_t)h, plain ? SOUND : any_kind());
-            if (!plain && chance(50))
+            if (!plain && header[SLOTS] > 0 && chance(50))
                 double_address(track, header);
             track += model_track_size(header);
         }
