@@ -25,7 +25,7 @@ use Rattle.sectors.specs.declared.work.Verdict.{Verdict}
 use Rattle.sectors.specs.declared.work.Work.{Work}
 use Rattle.sectors.specs.declared.work.Work.the-variants.{Moving}
 use Rattle.sectors.specs.Follow.{freshAt, withId, onSide, followedOf, followOf}
-use Rattle.sectors.specs.Result.{endOf, moveEnd, moveFails, movesOf}
+use Rattle.sectors.specs.Result.{endOf, moveEnd, movesOf}
 use Rattle.engine.specs.Step.{stageOf, workStep}
 use Rattle.sectors.specs.Track.{markPlace, dataPlace, nextSlot}
 use Rattle.sectors.specs.Write.{underrun, putOf, dryOf, storeOf}
@@ -84,7 +84,7 @@ module _ (c : Controller) (site : Site) (task : Task) (a b : List ℕ) (stage : 
 
   seeks-on : During c (Moving site task stage) a b → (task .id .r ≡ task .transfer .eot → ⊥)
       → Follows c site task a b stage false other → Seeks (after (ticks a b) c) ((task .id .r + 1) % 256)
-  seeks-on d n (follows slot effect work i t o e) =
+  seeks-on d n (follows slot effect work i t o y e) =
       let below : (work .id .r ≡ work .transfer .eot) → ⊥ = λ q. n (rw (i, t) at q) in
       seeks site _ _
       (ap (λ (x : Controller). x .phase) (followed false d slot effect work e)
@@ -96,7 +96,7 @@ module _ (c : Controller) (site : Site) (task : Task) (a b : List ℕ) (stage : 
   seeks-turned : During c (Moving site task stage) a b → task .id .r ≡ task .transfer .eot
       → task .transfer .mt ≡ true → site .side ≡ 0 → Follows c site task a b stage false other
       → Seeks (after (ticks a b) c) 1
-  seeks-turned d r m z (follows slot effect work i t o e) =
+  seeks-turned d r m z (follows slot effect work i t o y e) =
       let at-eot : work .id .r ≡ work .transfer .eot = rw (i, t) r in
       let turns : (work .transfer .mt && eqb (site .side) 0) ≡ true = rw (t, m, eq-eqb (site .side) 0 z) in
       seeks (onSide 1 site) _ _
@@ -124,7 +124,7 @@ module _ (c : Controller) (site : Site) (task : Task) (a b : List ℕ) (stage : 
 
   no-tc : During c (Moving site task stage) a b → Follows c site task a b stage false other
       → after (ticks a b) c .phase ≡ Answering true → 0x40 ≤ resultByte 0 (after (ticks a b) c)
-  no-tc d (follows slot effect work i t o e) p =
+  no-tc d (follows slot effect work i t o y e) p =
       let s = followed false d slot effect work e in
       rw s (no-tc-ends _ _
       (λ v q h. false≢true (follow-normal-had-tc slot site work (c .fifo) effect false v q h)) (rw s at p))
@@ -147,31 +147,24 @@ module _ (site : Site) (task : Task) (head slot done : ℕ) (drive k : ℕ) (img
   Kept s =
       getD (storedAs drive k (s .effect) img) (markPlace site head slot) 0 ≡ getD img (markPlace site head slot) 0
 
-  kept-put : (byte : ℕ) (fifo : Fifo) → Kept (putOf byte slot done site task head fifo)
+  kept-put : (byte : ℕ) (work : Task) (fifo : Fifo) → Kept (putOf byte slot done site work head fifo)
   unfolding putOf dataPlace
-  kept-put byte fifo =
+  kept-put byte work fifo =
       by-test (eqb drive k)
       (λ (l : List ℕ). getD l (markPlace site head slot) 0 ≡ getD img (markPlace site head slot) 0) _ _
       (λ _. getD-set-other img _ (markPlace site head slot) byte 0 (λ e. omega arith))
       (λ _. refl)
 
-  kept-fails : Kept (moveFails 0x10 0x00 site task)
-  unfolding moveFails moveEnd endOf
-  kept-fails =
-      by-test (eqb drive k)
-      (λ (l : List ℕ). getD l (markPlace site head slot) 0 ≡ getD img (markPlace site head slot) 0) img img
-      (λ _. refl) (λ _. refl)
-
   kept-dry : (fifo : Fifo) → Kept (dryOf slot done site task head fifo)
   unfolding dryOf underrun
-  kept-dry fifo = by-test (fifo .tc) Kept _ _ (λ _. kept-put 0 fifo) (λ _. kept-fails)
+  kept-dry fifo = by-test (fifo .tc) Kept _ _ (λ _. kept-put 0 task fifo) (λ _. kept-put 0 _ _)
 
   kept-store : (fifo : Fifo) (efifo : Bool) (fifothr : ℕ) → done < sizeOf (site .disk .n)
       → Kept (storeOf slot done site task head fifo efifo fifothr)
   unfolding storeOf
   kept-store fifo efifo fifothr h =
       rw (lt-leb (sizeOf (site .disk .n)) done h)
-      (by-test (eqb (fifo .count) 0) Kept _ _ (λ _. kept-dry fifo) (λ _. kept-put _ _))
+      (by-test (eqb (fifo .count) 0) Kept _ _ (λ _. kept-dry fifo) (λ _. kept-put _ task _))
 
 mark-waits : (c : Controller) (site : Site) (task : Task) (a b : List ℕ) (slot done : ℕ)
     → During c (Moving site task (Storing slot done)) a b → done < sizeOf (site .disk .n) → (k : ℕ) (img : List ℕ)

@@ -2,15 +2,16 @@
 -- Assumes nothing.
 use Prim.Native.Nat.{ℕ, _+_, _<_, _≤_}
 use native.Mathlib.Omega.{arith}
-use mathlib.Core.Bool.{Bool, Bool·beq, true, false, _&&_, _||_, and-false, or-true}
+use mathlib.Core.Bool.{Bool, Bool·beq, true, false, _&&_, _||_, cond, and-false, or-true}
 use mathlib.Core.List.{List}
 use mathlib.Core.Logic.{inl, inr}
 use mathlib.Core.Path.{_≡_, refl, sym, _∙_, ap}
 use lib.Dec.{eqb}
+use lib.ListN.{set}
 use borrow.Author.Tests.{eqb-true, eq-eqb, ne-eqb, le-leb, lt-leb, lt-ltb, le-ltb}
 use Rattle.image.proofs.TestLaws.{both, beq-true}
 use Rattle.chip.specs.declared.fifo.Fifo.{Fifo}
-use Rattle.chip.specs.Fifo.{capacityOf}
+use Rattle.chip.specs.Fifo.{capacityOf, shut}
 use Rattle.chip.specs.Next.{nextOf, advancedOf}
 use Rattle.sectors.specs.declared.order.Job.{Job}
 use Rattle.sectors.specs.declared.order.Job.the-variants.{Identify, Move, Format}
@@ -31,14 +32,14 @@ use Rattle.sectors.specs.declared.work.Work.the-variants.{Identifying, Moving, 
 use Rattle.engine.specs.First.{changes, misplanned, gateOf, givenId, enteredOf, beginOf}
 use Rattle.sectors.specs.Follow.{followedOf, followOf, turnOf}
 use Rattle.engine.specs.Format.{formatEnd, formAwait, addressOf, clearOn, formedOf, fillOf, clearOf, formOf}
-use Rattle.sectors.specs.Read.{overrun, readOf, drainedOf, drainOf}
+use Rattle.sectors.specs.Read.{overrun, sectorOver, readOn, readOf, drainedOf, drainOf}
 use Rattle.engine.specs.ReadId.{noIdOf, noIdHere, idHere, identifiedOf, identifyOf}
-use Rattle.sectors.specs.Result.{st0Of, otherBit, endOf, moveEnd, moveFails}
+use Rattle.sectors.specs.Result.{st0Of, otherBit, lateBit, endOf, lateEnd, moveEnd, moveFails, movesOf, tardy}
 use Rattle.sectors.specs.Search.{matches, noted, cylinderBits, withOther, notFound, missedOf, readFound, dataFound}
 use Rattle.sectors.specs.Search.{secondPass, bareFound, lookedOf, searchOf}
 use Rattle.engine.specs.Step.{driveOf, siteOf, lostOf, stageOf, workStep, goOnOf}
-use Rattle.sectors.specs.Track.{hasTrack, staysOf, markPlace}
-use Rattle.sectors.specs.Write.{underrun, awaitOf, dryOf, writtenOf, storeOf, writtenMark}
+use Rattle.sectors.specs.Track.{hasTrack, staysOf, markPlace, dataPlace}
+use Rattle.sectors.specs.Write.{underrun, awaitOf, putOf, dryOf, writtenOf, storeOf, writtenMark}
 use Rattle.image.specs.declared.disk.Disk.{Disk}
 use Rattle.image.specs.declared.disk.Disk.the-variants.{Absent, Present}
 use Rattle.image.specs.declared.layout.Geometry.{Geometry}
@@ -49,20 +50,20 @@ use Rattle.image.specs.declared.mark.Mark.the-variants.{NoId, Data, NoData}
 use Rattle.image.specs.declared.slot.Id.{Id}
 use Rattle.image.specs.declared.slot.Slot.{Slot}
 use Rattle.image.specs.Layout.{sameOf, sizeOf}
-use Rattle.image.specs.Lent.{pickOf}
+use Rattle.image.specs.Lent.{pickOf, storedIn}
 use Rattle.image.specs.Mark.{byteOf}
 use Rattle.fdc.specs.declared.record.Controller.{Controller}
 use Rattle.fdc.specs.declared.record.Phase.the-variants.{Working}
 use Rattle.fdc.specs.Commands.{answeredOf}
-use Rattle.fdc.specs.Record.{withFifo}
+use Rattle.fdc.specs.Record.{withFifo, withPhase}
 use Rattle.reached.specs.Runs.{ticks, after}
-use Rattle.fdc.specs.Ticks.{settledOf, decidedOf, ruledOf}
+use Rattle.fdc.specs.Ticks.{settledOf, decidedOf, ruledOf, imageAfter}
 use Rattle.answers.specs.Results as results
 use Rattle.answers.specs.Results.{Result, diskOf, headAt, NoTrack, OnTrack, zeros, formattedId, Before, firstId}
 use Rattle.answers.specs.Results.{ChangesJob}
 use Rattle.answers.specs.Results.{Misplanned, FirstEnds, During, slotIn, slotMark, Sought, HasId}
-use Rattle.answers.specs.Results.{SecondPass}
-use Rattle.answers.specs.Results.{FailsWith, SearchEnds, ReadEnds, WriteEnds, AtNext, nextId, EndsByNext, ReadIdEnds}
+use Rattle.answers.specs.Results.{SecondPass, slotPlace}
+use Rattle.answers.specs.Results.{FailsWith, FailsLate, RunsOn, SearchEnds, ReadEnds, WriteEnds, AtNext, nextId, EndsByNext, ReadIdEnds}
 use Rattle.answers.specs.Results.{FormatEnds, Lost, LostEnds, ResultBytes}
 use Rattle.demands.specs.Work.{Real}
 use Rattle.demands.proofs.CallLaws.{tick-starts, tick-works, after-tick}
@@ -243,12 +244,22 @@ true-sought slot site task e =
 -- the end of a transfer
 abbrev failing : ℕ → ℕ → Site → Task → Step
 failing st1 st2 site task =
-    endOf false (site .drive) (site .side) st1 (otherBit (task .other) + st2) (task .id) Nothing
+    endOf false (site .drive) (site .side) (lateBit (task .late) + st1) (otherBit (task .other) + st2) (task .id)
+    Nothing
+
+-- and one for which a byte was late
+abbrev failingLate : Effect → Site → Task → Step
+failingLate effect site task =
+    endOf false (site .drive) (site .side) 0x10 (otherBit (task .other) + 0x00) (task .id) effect
 
 module _ (site : Site) (task : Task) where
   fails-is : (st1 st2 : ℕ) → moveFails st1 st2 site task ≡ failing st1 st2 site task
   unfolding moveFails moveEnd
   fails-is st1 st2 = refl
+
+  late-is : (effect : Effect) → lateEnd effect site task ≡ failingLate effect site task
+  unfolding lateEnd moveEnd
+  late-is effect = refl
 
   module _ (look : Search) (fifo : Fifo) (p : SecondPass (look .slot) (look .passes) site) where
     missed-none : look .met ≡ false → missedOf look site task fifo ≡ failing 0x01 0x00 site task
@@ -286,7 +297,19 @@ module _ (c : Controller) (site : Site) (task : Task) (a b : List ℕ) where
 
   fails-by : (stage : Stage) (st1 st2 : ℕ) → During c (Moving site task stage) a b
       → staged c site task a b stage ≡ failing st1 st2 site task → FailsWith st1 st2 c site task a b
-  fails-by stage st1 st2 during e = ends-by stage false st1 _ (task .id) Nothing during e
+  fails-by stage st1 st2 during e = ends-by stage false _ _ (task .id) Nothing during e
+
+  late-by : (stage : Stage) (effect : Effect) → During c (Moving site task stage) a b
+      → staged c site task a b stage ≡ failingLate effect site task → FailsLate c site task a b
+  late-by stage effect during e = ends-by stage false _ _ (task .id) effect during e
+
+  -- a tick that ends nothing, a byte late
+  runs-by : (stage on : Stage) (effect : Effect) → During c (Moving site task stage) a b
+      → staged c site task a b stage ≡ movesOf on site (tardy task) shut effect
+      → RunsOn (after (ticks a b) c) site task on
+  unfolding workStep decidedOf settledOf withFifo withPhase
+  runs-by stage on effect during e =
+      rw (after-tick a b c, later-is c a b (Moving site task stage) _ during e) (record { works = refl; fifo = refl })
 
   -- the slot looked at
   abbrev slotHere : Search → Slot
@@ -341,71 +364,115 @@ module _ (c : Controller) (site : Site) (task : Task) (a b : List ℕ) where
   }
 
   -- READ
-  overrun-is : (sector : Sector) (done : ℕ) → c .fifo .tc ≡ false → capacityOf (c .registers .efifo) ≤ c .fifo .count
-      → staged c site task a b (Reading sector done) ≡ failing 0x10 0x00 site task
-  unfolding stageOf readOf overrun
-  overrun-is sector done t h =
-      rw (t, le-leb (capacityOf (c .registers .efifo)) (c .fifo .count) h) (fails-is site task 0x10 0x00)
+  overrun-is : (sector : Sector) (done : ℕ) (last : Bool) → c .fifo .tc ≡ false
+      → capacityOf (c .registers .efifo) ≤ c .fifo .count → sectorOver site done ≡ last
+      → staged c site task a b (Reading sector done)
+      ≡ movesOf (cond last (Draining sector 0) (Reading sector (done + 1))) site (tardy task) shut Nothing
+  unfolding stageOf readOf overrun readOn
+  overrun-is sector done true t h l = rw (t, le-leb (capacityOf (c .registers .efifo)) (c .fifo .count) h, l)
+  overrun-is sector done false t h l = rw (t, le-leb (capacityOf (c .registers .efifo)) (c .fifo .count) h, l)
 
   not-taken : (sector : Sector) (looks : ℕ) → 0 < c .fifo .count → 63 ≤ looks
-      → staged c site task a b (Draining sector looks) ≡ failing 0x10 0x00 site task
+      → staged c site task a b (Draining sector looks) ≡ failingLate Nothing site task
   unfolding stageOf drainOf
   not-taken sector looks h l =
-      rw (ne-eqb (c .fifo .count) 0 (λ e. omega arith), le-leb 63 looks l) (fails-is site task 0x10 0x00)
+      rw (ne-eqb (c .fifo .count) 0 (λ e. omega arith), le-leb 63 looks l) (late-is site task Nothing)
+
+  late-read : (sector : Sector) (looks : ℕ) → c .fifo .count ≡ 0 → sector .broken ≡ false → task .late ≡ true
+      → staged c site task a b (Draining sector looks) ≡ failingLate Nothing site task
+  unfolding stageOf drainOf drainedOf
+  late-read sector looks h k l =
+      simp (eq-eqb (c .fifo .count) 0 h, k, l) (late-is site task Nothing)
 
   data-error : (sector : Sector) (looks : ℕ) → c .fifo .count ≡ 0 → sector .broken ≡ true
       → staged c site task a b (Draining sector looks) ≡ failing 0x20 0x20 site task
   unfolding stageOf drainOf drainedOf
   data-error sector looks h k = rw (eq-eqb (c .fifo .count) 0 h, k) (fails-is site task 0x20 0x20)
 
-  other-kind : (sector : Sector) (looks : ℕ) → c .fifo .count ≡ 0 → sector .broken ≡ false → sector .other ≡ true
-      → staged c site task a b (Draining sector looks)
+  other-kind : (sector : Sector) (looks : ℕ) → c .fifo .count ≡ 0 → sector .broken ≡ false → task .late ≡ false
+      → sector .other ≡ true → staged c site task a b (Draining sector looks)
       ≡ endOf true (site .drive) (site .side) 0x00 (otherBit (task .other) + 0x00) (task .id) Nothing
   unfolding stageOf drainOf drainedOf moveEnd
-  other-kind sector looks h k o = rw (eq-eqb (c .fifo .count) 0 h, k, o)
+  other-kind sector looks h k l o = rw (eq-eqb (c .fifo .count) 0 h, k, l, o)
 
   read-ends : ReadEnds c site task a b
   read-ends = record {
-    overrun = λ sector done d t h. fails-by (Reading sector done) _ _ d (overrun-is sector done t h);
-    not-taken = λ sector looks d h l. fails-by (Draining sector looks) _ _ d (not-taken sector looks h l);
+    overrun = λ sector done d t h l.
+        runs-by (Reading sector done) _ _ d
+        (overrun-is sector done false t h (lt-leb (sizeOf (site .disk .n)) (done + 1) l));
+    overrun-last = λ sector done d t h l.
+        runs-by (Reading sector done) _ _ d
+        (overrun-is sector done true t h (le-leb (sizeOf (site .disk .n)) (done + 1) l));
+    not-taken = λ sector looks d h l. late-by (Draining sector looks) _ d (not-taken sector looks h l);
     data-error = λ sector looks d h k. fails-by (Draining sector looks) _ _ d (data-error sector looks h k);
-    other-kind = λ sector looks d h k o.
-        ends-by (Draining sector looks) true _ _ _ _ d (other-kind sector looks h k o);
+    late = λ sector looks d h k l. late-by (Draining sector looks) _ d (late-read sector looks h k l);
+    other-kind = λ sector looks d h k l o.
+        ends-by (Draining sector looks) true _ _ _ _ d (other-kind sector looks h k l o);
   }
 
   -- WRITE
   no-byte : (slot wait : ℕ) → c .fifo .count ≡ 0 → 63 ≤ wait
-      → staged c site task a b (Awaiting slot wait) ≡ failing 0x10 0x00 site task
+      → staged c site task a b (Awaiting slot wait) ≡ failingLate Nothing site task
   unfolding stageOf awaitOf
-  no-byte slot wait h l = rw (eq-eqb (c .fifo .count) 0 h, le-leb 63 wait l) (fails-is site task 0x10 0x00)
+  no-byte slot wait h l = rw (eq-eqb (c .fifo .count) 0 h, le-leb 63 wait l) (late-is site task Nothing)
 
   underrun-is : (slot done : ℕ) → c .fifo .count ≡ 0 → done < sizeOf (site .disk .n) → c .fifo .tc ≡ false
-      → staged c site task a b (Storing slot done) ≡ failing 0x10 0x00 site task
-  unfolding stageOf storeOf dryOf underrun
-  underrun-is slot done h l t =
-      rw (lt-leb (sizeOf (site .disk .n)) done l, eq-eqb (c .fifo .count) 0 h, t) (fails-is site task 0x10 0x00)
+      → staged c site task a b (Storing slot done)
+      ≡ movesOf (Storing slot (done + 1)) site (tardy task) shut
+      (Store (dataPlace site (headAt (site .drive) c) slot done) 0x00)
+  unfolding stageOf storeOf dryOf underrun putOf
+  underrun-is slot done h l t = rw (lt-leb (sizeOf (site .disk .n)) done l, eq-eqb (c .fifo .count) 0 h, t)
+
+  short-is : (slot done : ℕ) → sizeOf (site .disk .n) ≤ done → task .late ≡ true
+      → staged c site task a b (Storing slot done)
+      ≡ failingLate (Store (markPlace site (headAt (site .drive) c) slot) (writtenMark false task)) site task
+  unfolding stageOf storeOf writtenOf
+  short-is slot done l t = simp (le-leb (sizeOf (site .disk .n)) done l, t) (late-is site task _)
+
+  -- the image that a tick at work leaves
+  leaves-by : (stage : Stage) (step : Step) (img : List ℕ) → During c (Moving site task stage) a b
+      → staged c site task a b stage ≡ step → imageAfter (site .drive) a b c img ≡ storedIn (step .effect) img
+  unfolding workStep decidedOf imageAfter
+  leaves-by stage step img during e =
+      rw (later-is c a b (Moving site task stage) step during e, eq-eqb (site .drive) (site .drive) refl)
+
+  zero-is : (slot done : ℕ) → During c (Moving site task (Storing slot done)) a b → c .fifo .count ≡ 0
+      → done < sizeOf (site .disk .n) → c .fifo .tc ≡ false → (img : List ℕ)
+      → imageAfter (site .drive) a b c img ≡ set img (slotPlace c site slot + 5 + done) 0x00
+  unfolding dataPlace markPlace
+  zero-is slot done d h l t img = leaves-by (Storing slot done) _ img d (underrun-is slot done h l t)
+
+  mark-is : (slot done : ℕ) → During c (Moving site task (Storing slot done)) a b → sizeOf (site .disk .n) ≤ done
+      → task .late ≡ true → (img : List ℕ)
+      → imageAfter (site .drive) a b c img
+      ≡ set img (slotPlace c site slot) (byteOf (Data (task .transfer .deleted) false))
+  unfolding endOf markPlace
+  mark-is slot done d l t img = leaves-by (Storing slot done) _ img d (short-is slot done l t)
 
   write-ends : WriteEnds c site task a b
   write-ends = record {
-    no-byte = λ slot wait d h l. fails-by (Awaiting slot wait) _ _ d (no-byte slot wait h l);
-    underrun = λ slot done d h l t. fails-by (Storing slot done) _ _ d (underrun-is slot done h l t);
+    no-byte = λ slot wait d h l. late-by (Awaiting slot wait) _ d (no-byte slot wait h l);
+    underrun = λ slot done d h l t. runs-by (Storing slot done) _ _ d (underrun-is slot done h l t);
+    zero = zero-is;
+    short-mark = mark-is;
+    short = λ slot done d l t. late-by (Storing slot done) _ d (short-is slot done l t);
   }
 
   -- NEXT: by TC, and past EOT
-  follow-tc : (slot : ℕ) (fifo : Fifo) (effect : Effect) (work : Task)
+  follow-tc : (slot : ℕ) (fifo : Fifo) (effect : Effect) (work : Task) → work .late ≡ false
       → followOf slot true site work fifo effect
       ≡ endOf true (site .drive) (site .side) 0x00 (otherBit (work .other) + 0x00)
       (advancedOf (work .id) (work .transfer .eot) (work .transfer .mt) (site .side) 1) effect
   unfolding followOf nextOf followedOf moveEnd
-  follow-tc slot fifo effect work = refl
+  follow-tc slot fifo effect work n = rw n
 
-  follow-eot : (slot : ℕ) (fifo : Fifo) (effect : Effect) (work : Task) → work .id .r ≡ work .transfer .eot
-      → (work .transfer .mt && eqb (site .side) 0) ≡ false
+  follow-eot : (slot : ℕ) (fifo : Fifo) (effect : Effect) (work : Task) → work .late ≡ false
+      → work .id .r ≡ work .transfer .eot → (work .transfer .mt && eqb (site .side) 0) ≡ false
       → followOf slot false site work fifo effect
       ≡ endOf false (site .drive) (site .side) 0x80 (otherBit (work .other) + 0x00)
       (advancedOf (work .id) (work .transfer .eot) (work .transfer .mt) (site .side) 1) effect
   unfolding followOf nextOf followedOf moveEnd
-  follow-eot slot fifo effect work e m = rw (eq-eqb (work .id .r) (work .transfer .eot) e, m)
+  follow-eot slot fifo effect work n e m = rw (eq-eqb (work .id .r) (work .transfer .eot) e, m, n)
 
   no-turn : (mt : Bool) → (mt ≡ true → site .side ≡ 0 → ⊥) → (mt && eqb (site .side) 0) ≡ false
   no-turn true f = ne-eqb (site .side) 0 (f refl)
@@ -414,7 +481,7 @@ module _ (c : Controller) (site : Site) (task : Task) (a b : List ℕ) where
   -- what a sector that is done is followed by
   pub data Follows (stage : Stage) (tc other : Bool) : Type 0 where
     follows : (slot : ℕ) (effect : Effect) (work : Task) → work .id ≡ task .id → work .transfer ≡ task .transfer
-        → work .other ≡ other
+        → work .other ≡ other → work .late ≡ false
         → staged c site task a b stage ≡ followOf slot tc site work (c .fifo) effect → Follows stage tc other
 
   other-true : (t : Bool) → (t || true) ≡ true
@@ -429,13 +496,13 @@ module _ (c : Controller) (site : Site) (task : Task) (a b : List ℕ) where
 
   pub at-next : (stage : Stage) (tc other : Bool) → AtNext c site task a b stage tc other → Follows stage tc other
   unfolding stageOf drainOf drainedOf storeOf writtenOf searchOf lookedOf dataFound readFound
-  at-next stage tc other (results.drained sector looks e h k o t w) =
-      follows (sector .slot) Nothing task refl refl w (rw (e, eq-eqb (c .fifo .count) 0 h, k, o, t))
-  at-next stage tc other (results.stored slot done e l t w) =
-      follows slot (Store (markPlace site (headAt (site .drive) c) slot) (writtenMark false task)) task refl refl w
-      (rw (e, le-leb (sizeOf (site .disk .n)) done l, t))
-  at-next stage tc other (results.skipped look deleted broken e r k m w n t o) =
-      follows (look .slot) Nothing (withOther true task) refl refl (other-true (task .other) ∙ sym o)
+  at-next stage tc other (results.drained sector looks e h k l o t w) =
+      follows (sector .slot) Nothing task refl refl w l (rw (e, eq-eqb (c .fifo .count) 0 h, k, l, o, t))
+  at-next stage tc other (results.stored slot done e l y t w) =
+      follows slot (Store (markPlace site (headAt (site .drive) c) slot) (writtenMark false task)) task refl refl w y
+      (rw (e, le-leb (sizeOf (site .disk .n)) done l, y, t))
+  at-next stage tc other (results.skipped look deleted broken e r l k m w n t o) =
+      follows (look .slot) Nothing (withOther true task) refl refl (other-true (task .other) ∙ sym o) l
       (rw (e, m, sought-true (slotHere look) site task w, r, beq-false deleted (task .transfer .deleted) n, k, t))
 
   next-ends : EndsByNext c site task a b
@@ -447,17 +514,17 @@ module _ (c : Controller) (site : Site) (task : Task) (a b : List ℕ) where
       go-tc : (stage : Stage) (other : Bool) → During c (Moving site task stage) a b → Follows stage true other
           → Result (after (ticks a b) c) (st0Of true (site .drive) (site .side)) 0x00 (otherBit other + 0x00)
           (nextId site task)
-      go-tc stage other d (follows slot effect work i t o e) =
-          ends-by stage true _ _ _ effect d (e ∙ follow-tc slot (c .fifo) effect work ∙ rw (i, t, o))
+      go-tc stage other d (follows slot effect work i t o n e) =
+          ends-by stage true _ _ _ effect d (e ∙ follow-tc slot (c .fifo) effect work n ∙ rw (i, t, o))
 
       go-eot : (stage : Stage) (other : Bool) → During c (Moving site task stage) a b
           → task .id .r ≡ task .transfer .eot → (task .transfer .mt ≡ true → site .side ≡ 0 → ⊥)
           → Follows stage false other
           → Result (after (ticks a b) c) (st0Of false (site .drive) (site .side)) 0x80 (otherBit other + 0x00)
           (nextId site task)
-      go-eot stage other d r m (follows slot effect work i t o e) =
+      go-eot stage other d r m (follows slot effect work i t o n e) =
           ends-by stage false _ _ _ effect d
-          (e ∙ follow-eot slot (c .fifo) effect work (rw (i, t) r) (rw t (no-turn (task .transfer .mt) m))
+          (e ∙ follow-eot slot (c .fifo) effect work n (rw (i, t) r) (rw t (no-turn (task .transfer .mt) m))
           ∙ rw (i, t, o))
 
 -- READ ID

@@ -7,7 +7,8 @@ use mathlib.Core.List.{List, [], _∷_}
 use mathlib.Core.Logic.{_⊎_}
 use mathlib.Core.Path.{_≡_}
 use lib.Dec.{eqb, ltb}
-use Rattle.chip.specs.Fifo.{capacityOf, emptied}
+use lib.ListN.{set}
+use Rattle.chip.specs.Fifo.{capacityOf, emptied, shut}
 use Rattle.chip.specs.Next.{advancedOf}
 use Rattle.sectors.specs.declared.order.Job.{Job}
 use Rattle.sectors.specs.declared.order.Job.the-variants.{Identify, Move, Format}
@@ -25,7 +26,7 @@ use Rattle.sectors.specs.declared.work.Task.{Task}
 use Rattle.sectors.specs.declared.work.Work.{Work}
 use Rattle.sectors.specs.declared.work.Work.the-variants.{Identifying, Moving, Formatting}
 use Rattle.engine.specs.Format.{doneOf}
-use Rattle.sectors.specs.Result.{otherBit}
+use Rattle.sectors.specs.Result.{lateBit, otherBit, tardy}
 use Rattle.sectors.specs.Search.{slotOf}
 use Rattle.engine.specs.Step.{driveOf, siteOf}
 use Rattle.image.specs.declared.disk.Disk.{Disk}
@@ -35,14 +36,14 @@ use Rattle.image.specs.declared.mark.Mark.{Mark}
 use Rattle.image.specs.declared.mark.Mark.the-variants.{NoId, Data, NoData}
 use Rattle.image.specs.declared.slot.Id.{Id}
 use Rattle.image.specs.declared.slot.Slot.{Slot}
-use Rattle.image.specs.Layout.{sizeOf}
+use Rattle.image.specs.Layout.{sizeOf, offsetOf}
 use Rattle.image.specs.Lent.{pickOf}
-use Rattle.image.specs.Mark.{markOf}
+use Rattle.image.specs.Mark.{byteOf, markOf}
 use Rattle.fdc.specs.declared.record.Controller.{Controller}
 use Rattle.fdc.specs.declared.record.Phase.the-variants.{Starting, Working, Answering}
 use Rattle.fdc.specs.Record.{driveAt}
 use Rattle.reached.specs.Runs.{ticks, after}
-use Rattle.fdc.specs.Ticks.{seenOf}
+use Rattle.fdc.specs.Ticks.{seenOf, imageAfter}
 use Rattle.demands.specs.Work.{Real}
 
 -- 01 Commands: all these give ST0 ST1 ST2 C H R N, and no byte is taken yet. 01 Result: every end empties the FIFO
@@ -153,10 +154,22 @@ HasId NoData = Unit {0}
 abbrev pub SecondPass : ℕ → ℕ → Site → Type 0
 SecondPass slot passes site = (site .disk .slots ≤ slot + 1) × (1 ≤ passes)
 
--- 01 Read: ST2 40 from then on, once another kind of mark was met. 01 Result: the sector in hand
+-- 01 Read: ST2 40 from then on, once another kind of mark was met; 02 2026-02: and ST1 10, once a byte was late in the
+-- sector in hand. 01 Result: the sector in hand
 abbrev pub FailsWith : ℕ → ℕ → Controller → Site → Task → List ℕ → List ℕ → Type 0
 FailsWith st1 st2 c site task a b =
-    Result (after (ticks a b) c) (failedSt0 (site .side) (site .drive)) st1 (otherBit (task .other) + st2) (task .id)
+    Result (after (ticks a b) c) (failedSt0 (site .side) (site .drive)) (lateBit (task .late) + st1)
+    (otherBit (task .other) + st2) (task .id)
+
+-- ST1 10 alone
+abbrev pub FailsLate : Controller → Site → Task → List ℕ → List ℕ → Type 0
+FailsLate c site task a b =
+    Result (after (ticks a b) c) (failedSt0 (site .side) (site .drive)) 0x10 (otherBit (task .other) + 0x00) (task .id)
+
+-- 02 2026-02: no end: the byte is noted as late, the FIFO is emptied, the request off, and the sector goes on
+pub record RunsOn (e : Controller) (site : Site) (task : Task) (stage : Stage) : Type 0 where
+  pub works : e .phase ≡ Working (Moving site (tardy task) stage)
+  pub fifo : e .fifo ≡ shut
 
 -- 01 Search: ST2 10 if an ID had another C below FF and 02 if one had another C that is FF; both may stand
 abbrev pub cylinderSt2 : Bool → Bool → ℕ
@@ -197,41 +210,64 @@ pub record SearchEnds (c : Controller) (site : Site) (task : Task) (a b : List �
 
 -- 01 Read
 pub record ReadEnds (c : Controller) (site : Site) (task : Task) (a b : List ℕ) : Type 0 where
-  -- a byte to move and the FIFO full: ST1 10
+  -- 02 2026-02: a byte to move and the FIFO full: the sector is run to its end
   pub overrun : (sector : Sector) (done : ℕ) → During c (Moving site task (Reading sector done)) a b
-      → c .fifo .tc ≡ false → capacityOf (c .registers .efifo) ≤ c .fifo .count → FailsWith 0x10 0x00 c site task a b
+      → c .fifo .tc ≡ false → capacityOf (c .registers .efifo) ≤ c .fifo .count → done + 1 < sizeOf (site .disk .n)
+      → RunsOn (after (ticks a b) c) site task (Reading sector (done + 1))
+  pub overrun-last : (sector : Sector) (done : ℕ) → During c (Moving site task (Reading sector done)) a b
+      → c .fifo .tc ≡ false → capacityOf (c .registers .efifo) ≤ c .fifo .count → sizeOf (site .disk .n) ≤ done + 1
+      → RunsOn (after (ticks a b) c) site task (Draining sector 0)
   -- the 64th look that finds bytes: ST1 10
   pub not-taken : (sector : Sector) (looks : ℕ) → During c (Moving site task (Draining sector looks)) a b
-      → 0 < c .fifo .count → 63 ≤ looks → FailsWith 0x10 0x00 c site task a b
+      → 0 < c .fifo .count → 63 ≤ looks → FailsLate c site task a b
   -- one that finds none, in this order: broken, ST1 20, ST2 20
   pub data-error : (sector : Sector) (looks : ℕ) → During c (Moving site task (Draining sector looks)) a b
       → c .fifo .count ≡ 0 → sector .broken ≡ true → FailsWith 0x20 0x20 c site task a b
+  -- 02 2026-02: a byte was late, ST1 10, of either kind
+  pub late : (sector : Sector) (looks : ℕ) → During c (Moving site task (Draining sector looks)) a b
+      → c .fifo .count ≡ 0 → sector .broken ≡ false → task .late ≡ true → FailsLate c site task a b
   -- other kind, IC 00, address as it was (house)
   pub other-kind : (sector : Sector) (looks : ℕ) → During c (Moving site task (Draining sector looks)) a b
-      → c .fifo .count ≡ 0 → sector .broken ≡ false → sector .other ≡ true
+      → c .fifo .count ≡ 0 → sector .broken ≡ false → task .late ≡ false → sector .other ≡ true
       → Result (after (ticks a b) c) (normalSt0 (site .side) (site .drive)) 0x00 (otherBit (task .other) + 0x00)
       (task .id)
+
+-- where the mark of a slot under the head stands
+abbrev pub slotPlace : Controller → Site → ℕ → ℕ
+slotPlace c site slot = offsetOf (site .disk) (headAt (site .drive) c) (site .side) slot
 
 -- 01 Write
 pub record WriteEnds (c : Controller) (site : Site) (task : Task) (a b : List ℕ) : Type 0 where
   -- the 64th tick without a byte: ST1 10
   pub no-byte : (slot wait : ℕ) → During c (Moving site task (Awaiting slot wait)) a b → c .fifo .count ≡ 0
-      → 63 ≤ wait → FailsWith 0x10 0x00 c site task a b
-  -- FIFO empty without TC: ST1 10
+      → 63 ≤ wait → FailsLate c site task a b
+  -- 02 2026-02: FIFO empty without TC: the sector is filled to its end
   pub underrun : (slot done : ℕ) → During c (Moving site task (Storing slot done)) a b → c .fifo .count ≡ 0
-      → done < sizeOf (site .disk .n) → c .fifo .tc ≡ false → FailsWith 0x10 0x00 c site task a b
+      → done < sizeOf (site .disk .n) → c .fifo .tc ≡ false
+      → RunsOn (after (ticks a b) c) site task (Storing slot (done + 1))
+  -- in that tick with the first zero
+  pub zero : (slot done : ℕ) → During c (Moving site task (Storing slot done)) a b → c .fifo .count ≡ 0
+      → done < sizeOf (site .disk .n) → c .fifo .tc ≡ false → (img : List ℕ)
+      → imageAfter (site .drive) a b c img ≡ set img (slotPlace c site slot + 5 + done) 0x00
+  -- and at its end the good mark, in the tick that ends with ST1 10
+  pub short : (slot done : ℕ) → During c (Moving site task (Storing slot done)) a b → sizeOf (site .disk .n) ≤ done
+      → task .late ≡ true → FailsLate c site task a b
+  pub short-mark : (slot done : ℕ) → During c (Moving site task (Storing slot done)) a b
+      → sizeOf (site .disk .n) ≤ done → task .late ≡ true → (img : List ℕ)
+      → imageAfter (site .drive) a b c img
+      ≡ set img (slotPlace c site slot) (byteOf (Data (task .transfer .deleted) false))
 
 -- 01 Next: where a sector is done: read to its end and taken, stored with its good mark, or skipped in the tick of the
--- match. TC counts for a write with the FIFO empty; `other` says whether ST2 has its 40
+-- match, and no byte of it was late. TC counts for a write with the FIFO empty; `other` says whether ST2 has its 40
 pub data AtNext (c : Controller) (site : Site) (task : Task) (a b : List ℕ) (stage : Stage) (tc other : Bool)
     : Type 0 where
   drained : (sector : Sector) (looks : ℕ) → stage ≡ Draining sector looks → c .fifo .count ≡ 0
-      → sector .broken ≡ false → sector .other ≡ false → c .fifo .tc ≡ tc → task .other ≡ other
+      → sector .broken ≡ false → task .late ≡ false → sector .other ≡ false → c .fifo .tc ≡ tc → task .other ≡ other
       → AtNext c site task a b stage tc other
-  stored : (slot done : ℕ) → stage ≡ Storing slot done → sizeOf (site .disk .n) ≤ done
+  stored : (slot done : ℕ) → stage ≡ Storing slot done → sizeOf (site .disk .n) ≤ done → task .late ≡ false
       → (c .fifo .tc && eqb (c .fifo .count) 0) ≡ tc → task .other ≡ other → AtNext c site task a b stage tc other
   skipped : (look : Search) (deleted broken : Bool) → stage ≡ Searching look → task .transfer .pass ≡ Read
-      → task .transfer .sk ≡ true → slotMark (slotIn c site a b (look .slot)) ≡ Data deleted broken
+      → task .late ≡ false → task .transfer .sk ≡ true → slotMark (slotIn c site a b (look .slot)) ≡ Data deleted broken
       → Sought (slotIn c site a b (look .slot)) site task → (deleted ≡ task .transfer .deleted → ⊥)
       → c .fifo .tc ≡ tc → other ≡ true → AtNext c site task a b stage tc other
 
@@ -284,7 +320,7 @@ pub record FormatEnds (c : Controller) (site : Site) (plan : Plan) (a b : List �
       → Result (after (ticks a b) c) (normalSt0 (site .side) (site .drive)) 0x00 0x00
       (formattedId plan (site .drive) (headAt (site .drive) c) (site .side) (plan .sc))
 
--- 01 Data commands: a drive emptied or header changed later: ST1 01 at that tick
+-- 01 Data commands: a drive emptied or header changed later: ST1 01 at that tick, 11 after a late byte
 abbrev pub Lost : Disk → Geometry → Type 0
 Lost Absent met = Unit {0}
 Lost (Present g) met = g ≡ met → ⊥

@@ -12,7 +12,7 @@ use lib.ListN.{length, getD, set, take, drop, replicate}
 use lib.ListN.{length-set, length-append, length-drop, take-append-drop, replicate-append-replicate}
 use lib.Seq.{length-take-le, take-suc-set, take-append-le, drop-append-le, drop-set-lt, drop-drop}
 use Rattle.chip.specs.declared.fifo.Fifo.{Fifo}
-use Rattle.chip.specs.Fifo.{capacityOf, readLevel, writeLevel, fullOf, held, frontOf, handedOf, emptied, flagged, FitsFifo, TcOver}
+use Rattle.chip.specs.Fifo.{capacityOf, readLevel, writeLevel, fullOf, held, frontOf, handedOf, emptied, flagged, shut, FitsFifo, TcOver}
 use Rattle.chip.specs.Fifo.{pushedOf, poppedOf, filledOf, takenOf, openedOf, givenOf, drawnOf}
 use Rattle.image.proofs.TestLaws.{by-test, or-right}
 
@@ -231,6 +231,9 @@ fits-popped efifo f p = record {
 pub fits-emptied : (efifo : Bool) → FitsFifo efifo emptied
 fits-emptied efifo = record { sixteen = refl; within = omega arith; past = refl }
 
+pub fits-shut : (efifo : Bool) → FitsFifo efifo shut
+fits-shut efifo = fits-flagged efifo false true emptied (fits-emptied efifo)
+
 pub fits-filled : (efifo : Bool) (fifothr : ℕ) (last : Bool) (byte : ℕ) (f : Fifo)
     → FitsFifo efifo f → FitsFifo efifo (filledOf efifo fifothr last byte f)
 unfolding filledOf
@@ -240,7 +243,7 @@ fits-filled efifo fifothr last byte f p =
 
 pub fits-taken : (efifo tc : Bool) (f : Fifo) → FitsFifo efifo f → FitsFifo efifo (takenOf tc f)
 unfolding takenOf
-fits-taken efifo true f p = fits-flagged efifo false true emptied (fits-emptied efifo)
+fits-taken efifo true f p = fits-shut efifo
 fits-taken efifo false f p = fits-flagged efifo _ _ _ (fits-popped efifo f p)
 
 pub fits-opened : (efifo : Bool) (f : Fifo) → FitsFifo efifo f → FitsFifo efifo (openedOf f)

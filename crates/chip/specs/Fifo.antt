@@ -49,6 +49,10 @@ emptied = record { bytes = replicate 16 0; count = 0; asks = false; tc = false }
 abbrev pub flagged : Bool → Bool → Fifo → Fifo
 flagged asks tc f = record { bytes = f .bytes; count = f .count; asks = asks; tc = tc }
 
+-- no byte follows, and the request is off for good: after TC, and after a byte that came late (02 2026-02)
+abbrev pub shut : Fifo
+shut = flagged false true emptied
+
 -- first in, first out: a byte goes behind those held, and the front one leaves
 abbrev pub pushedOf : ℕ → Fifo → Fifo
 pushedOf byte f = record { bytes = set (f .bytes) (f .count) byte; count = f .count + 1; asks = f .asks; tc = f .tc }
@@ -66,7 +70,7 @@ filledOf efifo fifothr last byte f =
 -- 01 FIFO, to host: off when empty. 01 Read: TC empties the FIFO
 unfoldable pub takenOf : Bool → Fifo → Fifo
 takenOf tc f =
-    cond tc (flagged false true emptied)
+    cond tc shut
     (flagged (f .asks && ltb 0 (f .count - 1)) (f .tc) (poppedOf f))
 
 -- 01 FIFO, from host: on once the first tests pass

@@ -11,6 +11,7 @@ ghost use Rattle.chip.specs.Fifo.{
   handedOf,
   emptied,
   flagged,
+  shut,
   pushedOf,
   poppedOf,
   filledOf,
@@ -25,7 +26,7 @@ pub struct Fifo {
     pub count: u8,
     // The request, a latch.
     pub asks: bool,
-    // TC has come: no byte follows, and the request is off for good.
+    // No byte follows, and the request is off for good: TC has come, or a byte came late (02 2026-02).
     pub tc: bool,
 }
 
@@ -65,6 +66,18 @@ impl Fifo {
             count: 0,
             asks: false,
             tc: false,
+        }
+    }
+
+    // Nothing is held, and no byte follows.
+    pub fn shut() -> Fifo
+        ensures { λ r. ⌜ r ≡ shut ⌝ }
+    {
+        Fifo {
+            bytes: [0u8; 16],
+            count: 0,
+            asks: false,
+            tc: true,
         }
     }
 
@@ -176,7 +189,7 @@ impl Fifo {
         ensures { λ r. ⌜ r ≡ takenOf tc self ⌝ }
     {
         if tc {
-            return Fifo::empty().flagged(false, true);
+            return Fifo::shut();
         }
         let f = self.popped();
         let asks = self.asks & (0 < f.count);

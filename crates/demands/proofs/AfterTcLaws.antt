@@ -22,15 +22,15 @@ use Rattle.demands.specs.History.{History, historyBy}
 use Rattle.demands.specs.PowerCut.{Aim, headOf}
 use Rattle.demands.specs.Quiet.{Quiet}
 use Rattle.demands.specs.Work.{Real, atWork, Its, Alone, imageLeft}
-use Rattle.demands.proofs.CallLaws.{call-rule, taken-rule}
-use Rattle.demands.proofs.CallRules.{same, took, gave, TakenRule, none-taken, one-taken}
+use Rattle.demands.proofs.CallLaws.{taken-rule}
+use Rattle.demands.proofs.CallRules.{TakenRule, none-taken, one-taken}
 use Rattle.demands.proofs.SplitLaws.{tick-or-not, taking-or-not, none-handed}
-use Rattle.demands.proofs.CallRules.{CallRule, cut-off, goes-on}
 use Rattle.demands.proofs.LeftLaws.{noted-host}
 use Rattle.demands.proofs.HandedOverLaws as handing
 use Rattle.demands.proofs.HandedStream.{Flow, flows, ended}
 use Rattle.demands.proofs.PowerCutLaws as cutting
-use Rattle.demands.proofs.QuietLaws.{quiet-real, quiet-after}
+use Rattle.demands.proofs.QuietLaws.{quiet-real, quiet-after, quiet-its}
+use Rattle.demands.proofs.ShortLaws.{none-given-off, not-on}
 use mathlib.Core.Logic.{_⊎_, inl, inr}
 use native.Mathlib.Omega.{arith}
 use lib.Dec.{eqb}
@@ -39,12 +39,6 @@ use Rattle.image.proofs.TestLaws.{by-test, le-or-lt}
 use Rattle.fdc.specs.declared.answer.Reply.{Reply}
 use Rattle.fdc.specs.declared.answer.Reply.the-variants.{Done, Byte, Refused}
 use Rattle.demands.specs.ReadSucceeds.{AsTaken, TellsAt}
-
--- a record at work is quiet after each call of the command
-pub quiet-its : (calls : List Call) (c : Controller) → Quiet c → Its calls c → Quiet (runCalls calls c)
-unfolding Its runCalls
-quiet-its [] c q i = q
-quiet-its (call ∷ calls) c q i = quiet-its calls (after call c) (quiet-after call c q (i .0)) (i .1)
 
 -- with the request off no call takes a byte from the box
 none-taken-off : (call : Call) (c : Controller) (t : Taken) → Quiet c → atWork (c .phase) ≡ true
@@ -61,28 +55,19 @@ none-taken-off call c t q w off =
     by call (one-taken tc h a f n) = absurd (true≢false (sym a ∙ off))
 
 -- nor gives it one
-none-given-off : (call : Call) (c : Controller) (h : History) → Quiet c → atWork (c .phase) ≡ true
+none-given : (call : Call) (c : Controller) (h : History) → Quiet c → atWork (c .phase) ≡ true
     → c .fifo .asks ≡ false → historyBy call c h .host ≡ h .host
 unfolding historyBy
-none-given-off call c h q w off =
+none-given call c h q w off =
     tick-or-not
     (λ x. historyBy x c h .host ≡ h .host)
     (λ a b. noted-host (ruledOf a b c .effect) h)
-    (λ x n. by x (call-rule x c q w n)) call
-  where
-    by : (call : Call) → CallRule call c (after call c) → historyBy call c h .host ≡ h .host
-    by call (cut-off o n) = ap (λ (x : History). x .host) (n h)
-    by call (goes-on k (same f n)) = ap (λ (x : History). x .host) (n h)
-    by call (goes-on k (took tc m p f n)) = ap (λ (x : History). x .host) (n h)
-    by call (goes-on k (gave byte tc p a f n)) = absurd (true≢false (sym a ∙ off))
-
-not-on : (b : Bool) → (b ≡ true → ⊥) → b ≡ false
-not-on true n = absurd (n refl)
-not-on false n = refl
+    (λ x n. ap (λ (y : History). y .host) (none-given-off x c h q w n off)) call
 
 -- told, the request is off
-flow-off : (g : Geometry) (cylinder : ℕ) (transfer : Transfer) (aim : Aim) (img : List ℕ) (num : ℕ → ℕ) {n done : ℕ}
-    {f : Fifo} {t : Taken} → Flow g cylinder transfer aim img num n done f t → t .told ≡ true → f .asks ≡ false
+flow-off : (g : Geometry) (cylinder : ℕ) (transfer : Transfer) (aim : Aim) (img : List ℕ) (num : ℕ → ℕ)
+    {late : Bool} {n done : ℕ} {f : Fifo} {t : Taken} → Flow g cylinder transfer aim img num late n done f t
+    → t .told ≡ true → f .asks ≡ false
 flow-off g cylinder transfer aim img num (flows a n lo sum all) told = absurd (false≢true (sym n ∙ told))
 flow-off g cylinder transfer aim img num (ended a n none off all lo hi) told = off
 
@@ -121,7 +106,7 @@ read-stops-quiet c q order transfer id r img g disk calls its alone work told ca
 
 pub write-stops-quiet : WriteStops Quiet
 write-stops-quiet c q order transfer id w old g disk calls its alone work told call =
-    none-given-off call (runCalls calls c) _ (quiet-its calls c q its) work
+    none-given call (runCalls calls c) _ (quiet-its calls c q its) work
     (write-off g (headOf order c) order transfer id old disk (w .moves) (w .writes) _ _ _ _ _ _
     (cutting.ran c q order transfer id w old g disk calls its alone) work told)
 

@@ -62,7 +62,7 @@ use Rattle.demands.specs.EndsInTime.{boundOf}
 use Rattle.demands.specs.Quiet.{ProperJob}
 use Rattle.fdc.specs.Registers.{bit}
 use Rattle.demands.proofs.CountLaws.{bit-le, count, count-le, count-ext, count-less, count-pos, near, near-self, near-next, near-gone}
-use Rattle.demands.proofs.TickRules.{marked, hits, endsWith, NextRule, stops, turns, steps, Rule, notFound, noData, noSide, late, misses, passes, toWrite, toRead, skips, turned-over, waits, begins, puts, pads, finishes, moves, moves-last, drains, data-error, other-kind, drained, transfer-rule}
+use Rattle.demands.proofs.TickRules.{marked, hits, endsWith, NextRule, stops, turns, steps, Rule, notFound, noData, noSide, late, misses, passes, toWrite, toRead, skips, turned-over, waits, begins, puts, pads, dries, ends-short, finishes, moves, moves-last, overruns, overruns-last, drains, data-error, ends-late, other-kind, drained, transfer-rule}
 
 -- 01 End: one search with what it finds, at most
 unfoldable pub cost : Geometry → ℕ
@@ -415,7 +415,7 @@ module _ (head : ℕ) (img : List ℕ) (efifo : Bool) (fifothr : ℕ) (site : Si
       rw e (end-falls _ img head _ verdict Nothing (stage-pos img head site task stage q))
   rule-falls stage o (noSide slot verdict p ns f e) q =
       rw e (end-falls _ img head _ verdict Nothing (stage-pos img head site task stage q))
-  rule-falls stage o (late verdict f l e) q =
+  rule-falls stage o (late verdict f l x e) q =
       rw e (end-falls _ img head _ verdict Nothing (stage-pos img head site task stage q))
   rule-falls stage o (misses look on p h l a b e) q =
       let q′ = rw p at q in
@@ -479,7 +479,16 @@ module _ (head : ℕ) (img : List ℕ) (efifo : Bool) (fifothr : ℕ) (site : Si
             (task .transfer .eot)) (omega arith);
         proper = (refl, (w, (q′ .0, omega arith)));
       })
-  rule-falls stage o (finishes slot done p l r) q =
+  rule-falls stage o (dries slot done p l k t e) q =
+      let q′ = rw p at q in
+      rw (e, p) (record {
+        less = rw (later-same img head site _ (data-apart img head site slot done 0x00 l) (task .id .r)
+            (task .transfer .eot)) (omega arith);
+        proper = (refl, (w, (q′ .0, omega arith)));
+      })
+  rule-falls stage o (ends-short slot done verdict p l x y f e) q =
+      rw e (end-falls _ img head _ verdict _ (stage-pos img head site task stage q))
+  rule-falls stage o (finishes slot done p l x r) q =
       let q′ = rw p at q in
       rw p (next-falls img head slot site task fifo _ _ _ o r w some
       (mark-apart img head site slot (writtenMark false task))
@@ -490,14 +499,22 @@ module _ (head : ℕ) (img : List ℕ) (efifo : Bool) (fifothr : ℕ) (site : Si
   rule-falls stage o (moves-last sector done f p l x e) q =
       let q′ = rw p at q in
       rw (e, p) (record { less = omega arith; proper = (refl, (w, (q′ .0, omega arith))) })
+  rule-falls stage o (overruns sector done p l x y e) q =
+      let q′ = rw p at q in
+      rw (e, p) (record { less = omega arith; proper = (refl, (w, (q′ .0, l))) })
+  rule-falls stage o (overruns-last sector done p l x y e) q =
+      let q′ = rw p at q in
+      rw (e, p) (record { less = omega arith; proper = (refl, (w, (q′ .0, omega arith))) })
   rule-falls stage o (drains sector looks p l e) q =
       let q′ = rw p at q in
       rw (e, p) (record { less = omega arith; proper = (refl, (w, (q′ .0, omega arith))) })
   rule-falls stage o (data-error sector looks verdict p b s f e) q =
       rw e (end-falls _ img head _ verdict Nothing (stage-pos img head site task stage q))
-  rule-falls stage o (other-kind sector looks verdict p b z ok os v zc e) q =
+  rule-falls stage o (ends-late sector looks verdict p b x v e) q =
       rw e (end-falls _ img head _ verdict Nothing (stage-pos img head site task stage q))
-  rule-falls stage o (drained sector looks p b ok zc r) q =
+  rule-falls stage o (other-kind sector looks verdict p b x z ok os v zc e) q =
+      rw e (end-falls _ img head _ verdict Nothing (stage-pos img head site task stage q))
+  rule-falls stage o (drained sector looks p b x ok zc r) q =
       let q′ = rw p at q in
       rw p (next-falls img head (sector .slot) site task fifo Nothing _ _ o r w some all-kept
       (omega arith) (next-effect img head (sector .slot) site task fifo Nothing _ o r))

@@ -3,13 +3,13 @@
 -- Assumes nothing.
 use Prim.Native.Nat.{ℕ, zero, suc, _+_, _-_, _*_, _≤_, _<_}
 use native.Mathlib.Omega.{arith}
-use mathlib.Core.Bool.{Bool, true, false, _&&_, false≢true}
+use mathlib.Core.Bool.{Bool, true, false, _&&_, cond, true≢false, false≢true, or-true}
 use mathlib.Core.List.{List, [], _∷_, _++_}
 use mathlib.Core.Logic.{_⊎_, inl, inr}
 use mathlib.Core.Path.{_≡_, refl, sym, ap, _∙_, subst}
 use lib.Dec.{eqb, ltb}
-use lib.ListN.{length, getD, set, length-append}
-use borrow.Author.Tests.{ltb-true, eqb-true, eq-eqb, ne-eqb}
+use lib.ListN.{length, getD, set, length-append, List·getD-eq-default}
+use borrow.Author.Tests.{ltb-true, eqb-true, eq-eqb, ne-eqb, le-leb, lt-leb}
 use Rattle.image.proofs.TestLaws.{by-test, both, le-or-lt}
 use Rattle.image.specs.declared.layout.Geometry.{Geometry}
 use Rattle.image.specs.declared.lent.Effect.the-variants.{Nothing, Store}
@@ -21,7 +21,7 @@ use Rattle.image.specs.Lent.{storedIn}
 use Rattle.image.specs.Mark.{byteOf, markOf}
 use Rattle.image.specs.Slot.{idAt}
 use Rattle.chip.specs.declared.fifo.Fifo.{Fifo}
-use Rattle.chip.specs.Fifo.{held, frontOf, drawnOf}
+use Rattle.chip.specs.Fifo.{held, frontOf, drawnOf, shut}
 use Rattle.chip.specs.Next.{advancedOf}
 use Rattle.chip.specs.Fifo.{FitsFifo}
 use Rattle.sectors.specs.declared.order.Pass.{Pass}
@@ -38,19 +38,19 @@ use Rattle.sectors.specs.declared.work.Work.{Work}
 use Rattle.sectors.specs.declared.work.Work.the-variants.{Identifying, Moving, Formatting}
 use Rattle.sectors.specs.Follow.{freshAt, turnOf}
 use Rattle.sectors.specs.declared.work.Verdict.{Verdict}
-use Rattle.sectors.specs.Result.{st0Of, otherBit, endOf, moveEnd, moveFails, movesOf}
+use Rattle.sectors.specs.Result.{st0Of, otherBit, lateBit, endOf, moveEnd, moveFails, movesOf, tardy}
 use Rattle.sectors.specs.Search.{matches}
 use Rattle.engine.specs.Step.{stageOf}
 use Rattle.sectors.specs.Track.{hasTrack, markPlace, dataPlace, nextSlot, sectorBytes}
 use Rattle.sectors.specs.Write.{writtenMark}
-use Rattle.demands.specs.Acknowledged.{AllSafe, Acknowledges}
+use Rattle.demands.specs.Acknowledged.{AllSafe, Acknowledges, doneCount, shownNumber}
 use Rattle.demands.specs.History.{Begun, no-one, some-of, History, notedStore}
-use Rattle.demands.specs.PowerCut.{Aim, aimNo, Followed, Counts, Stands, HalfDone, LeftBy}
+use Rattle.demands.specs.PowerCut.{Aim, aimNo, Followed, Counts, Stands, HalfDone, LeftBy, storedCount, Missing}
 use Rattle.demands.proofs.AddressLaws.{AllBehind, all-step, all-turn, onward-turn, onward-stay}
-use Rattle.demands.proofs.FifoStream.{Open, Stream, open-drawn, stream-told, stream-within, held-drawn, held-dry, held-more, held-none}
-use Rattle.demands.proofs.LeftLaws.{storedCount, left-begins, left-puts, left-finishes}
+use Rattle.demands.proofs.FifoStream.{Open, Stream, dried, open-drawn, open-shut, stream-within, held-drawn, held-dry, held-more, held-none}
+use Rattle.demands.proofs.LeftLaws.{left-begins, left-puts, left-finishes}
 use Rattle.demands.proofs.RequestLaws.{test-on, test-off}
-use Rattle.demands.proofs.TickRules.{marked, hits, Fails, NextEnds, NextRule, stops, turns, steps, Rule, notFound, noData, noSide, late, misses, passes, toWrite, toRead, skips, turned-over, waits, begins, puts, pads, finishes, moves, moves-last, drains, data-error, other-kind, drained}
+use Rattle.demands.proofs.TickRules.{marked, hits, Fails, Waits, NextEnds, NextRule, stops, turns, steps, Rule, notFound, noData, noSide, late, misses, passes, toWrite, toRead, skips, turned-over, waits, begins, puts, pads, dries, ends-short, finishes, moves, moves-last, overruns, overruns-last, drains, data-error, ends-late, other-kind, drained}
 
 -- the slot after the one used is one of the track's
 pub next-slot-below : (slot slots : ℕ) → 1 ≤ slots → nextSlot slot slots < slots
@@ -102,12 +102,21 @@ turned-has slot site task head fifo =
     → hasTrack (site .disk) head (site .side) ≡ true)
     _ _ (λ t e. t) (λ t e. let f = ap (λ (s : Step). s .then) e in let z : _≡_ {A = ℕ} 0 1 = cc in absurd (omega arith))
 
+-- a task that differs at most in a late byte
+record SameOrder (task task′ : Task) : Type 0 where
+  transfer : task′ .transfer ≡ task .transfer
+  other : task′ .other ≡ task .other
+  id : task′ .id ≡ task .id
+
+same-order : (task : Task) → SameOrder task task
+same-order task = record { transfer = refl; other = refl; id = refl }
+
 -- The history after a store.
 
 abbrev grown : ℕ → List ℕ → History → History
 grown at bytes h = record { host = h .host; told = h .told; finished = h .finished; begun = some-of at bytes }
 
-abbrev closed : ℕ → List ℕ → History → History
+abbrev pub closed : ℕ → List ℕ → History → History
 closed at bytes h =
     record {
       host = h .host;
@@ -123,16 +132,29 @@ noted-grown : (p v at : ℕ) (bytes : List ℕ) (h : History) → p ≡ at + 5 +
     → notedStore (Store p v) h ≡ grown at (bytes ++ (v ∷ [])) h
 noted-grown p v at bytes h e b = rw (b, ne-eqb p at (λ t. omega arith))
 
-noted-closed : (p v at : ℕ) (bytes : List ℕ) (h : History) → p ≡ at → h .begun ≡ some-of at bytes
+pub noted-closed : (p v at : ℕ) (bytes : List ℕ) (h : History) → p ≡ at → h .begun ≡ some-of at bytes
     → notedStore (Store p v) h ≡ closed at bytes h
 noted-closed p v at bytes h e b = rw (b, eq-eqb p at e)
 
 pub some≢none : (at : ℕ) (bytes : List ℕ) → some-of at bytes ≡ no-one → ⊥
 some≢none at bytes e = let z : _≡_ {A = ℕ} 0 1 = cc in omega arith
 
-pub not-80 : (x : ℕ) → (x ≡ 0x01) ⊎ (x ≡ 0x04) → x ≡ 0x80 → ⊥
-not-80 x (inl y) z = omega arith
-not-80 x (inr y) z = omega arith
+-- the ends of a search beside a late byte's 10
+pub not-80 : (late : Bool) (x : ℕ) → (x ≡ 0x01) ⊎ (x ≡ 0x04) → lateBit late + x ≡ 0x80 → ⊥
+not-80 true x (inl y) z = omega arith
+not-80 true x (inr y) z = omega arith
+not-80 false x (inl y) z = omega arith
+not-80 false x (inr y) z = omega arith
+
+-- the number of the sector whose address the result gives
+pub shown-all : (g : Geometry) (h : History) → (h .told ≡ true) ⊎ (doneCount h * sizeOf (g .n) ≤ length (h .host))
+    → shownNumber g h ≡ doneCount h
+shown-all g h (inl t) = rw t
+shown-all g h (inr l) = rw (le-leb (doneCount h * sizeOf (g .n)) (length (h .host)) l, or-true (h .told))
+
+shown-short : (g : Geometry) (h : History) → h .told ≡ false → length (h .host) < doneCount h * sizeOf (g .n)
+    → shownNumber g h ≡ doneCount h - 1
+shown-short g h t l = rw (t, lt-leb (doneCount h * sizeOf (g .n)) (length (h .host)) l)
 
 -- 01 Result: IC
 normal-below : (drive side : ℕ) → st0Of true drive side < 0x40
@@ -184,8 +206,11 @@ module _ (g : Geometry) (cylinder drive : ℕ) (transfer : Transfer) (aim : Aim)
     pub link : Link (aimNow h) (h .begun) stage
     pub request : Open efifo fifo
     pub stream : Stream (h .host) (held fifo) (storedCount g h) (fifo .tc)
-    pub tc : fifo .tc ≡ true → h .told ≡ true
+    pub tc : fifo .tc ≡ true → task .late ≡ false → h .told ≡ true
     pub heard : h .told ≡ true → fifo .tc ≡ true
+    -- 02 2026-02: a byte comes late in a sector begun, and is missing there
+    pub late : task .late ≡ true → Missing g h
+    pub timely : h .begun ≡ no-one → task .late ≡ false
     -- after TC a sector is sought only for bytes that are held
     pub more : fifo .tc ≡ true → h .begun ≡ no-one → 0 < fifo .count
     pub sofar : Sofar img h
@@ -228,6 +253,8 @@ module _ (g : Geometry) (cylinder drive : ℕ) (transfer : Transfer) (aim : Aim)
           stream = b .stream;
           tc = b .tc;
           heard = b .heard;
+          late = b .late;
+          timely = b .timely;
           more = b .more;
           sofar = b .sofar;
         }
@@ -267,22 +294,23 @@ module _ (g : Geometry) (cylinder drive : ℕ) (transfer : Transfer) (aim : Aim)
         }
 
     -- a store goes to the next byte of the same sector
-    busy-stored : {site : Site} {task : Task} {stage : Stage} {fifo : Fifo} {img : List ℕ} {h : History} (slot done : ℕ)
-        (fifo′ : Fifo) (img′ bytes : List ℕ) → Busy efifo site task stage fifo img h → InHand (aimNow h) slot
-        → length bytes ≡ done → Open efifo fifo′
+    busy-stored : {site : Site} {task : Task} {stage : Stage} {fifo : Fifo} {img : List ℕ} {h : History} (task′ : Task)
+        (slot done : ℕ) (fifo′ : Fifo) (img′ bytes : List ℕ) → Busy efifo site task stage fifo img h
+        → SameOrder task task′ → InHand (aimNow h) slot → length bytes ≡ done → Open efifo fifo′
         → Stream (h .host) (held fifo′) (length (h .finished) * sizeOf (g .n) + length bytes) (fifo′ .tc)
-        → (fifo′ .tc ≡ true → h .told ≡ true) → (h .told ≡ true → fifo′ .tc ≡ true)
+        → (fifo′ .tc ≡ true → task′ .late ≡ false → h .told ≡ true) → (h .told ≡ true → fifo′ .tc ≡ true)
+        → (task′ .late ≡ true → Missing g (grown (offsetOf g cylinder (aimNow h .side) slot) bytes h))
         → Sofar img′ (grown (offsetOf g cylinder (aimNow h .side) slot) bytes h)
-        → Busy efifo site task (Storing slot done) fifo′ img′
+        → Busy efifo site task′ (Storing slot done) fifo′ img′
         (grown (offsetOf g cylinder (aimNow h .side) slot) bytes h)
-    busy-stored slot done fifo′ img′ bytes b hand z o s t u k =
+    busy-stored task′ slot done fifo′ img′ bytes b same hand z o s t u m k =
         record {
           disk = b .disk;
           drive-is = b .drive-is;
-          told-to = b .told-to;
-          plain = b .plain;
+          told-to = same .transfer ∙ b .told-to;
+          plain = same .other ∙ b .plain;
           side = b .side;
-          id = b .id;
+          id = same .id ∙ b .id;
           all = b .all;
           on = b .on;
           link = (hand, record { bytes = bytes; some = refl; size = z });
@@ -290,6 +318,8 @@ module _ (g : Geometry) (cylinder drive : ℕ) (transfer : Transfer) (aim : Aim)
           stream = s;
           tc = t;
           heard = u;
+          late = m;
+          timely = λ e. absurd (some≢none _ _ e);
           more = λ x e. absurd (some≢none _ _ e);
           sofar = k;
         }
@@ -318,25 +348,50 @@ module _ (g : Geometry) (cylinder drive : ℕ) (transfer : Transfer) (aim : Aim)
           → (length (h .finished) - 1) * sizeOf (g .n) < length (h .host)
       no-more-of img h k l = k .fed (length (h .finished) - 1) (omega arith)
 
+      -- the sectors finished so far are all full of the host's bytes, or TC came
+      all-full : (h .told ≡ true) ⊎ (length (h .finished) * sizeOf (g .n) ≤ length (h .host))
+      all-full = go (h .begun) refl
+        where
+          with-none : h .begun ≡ no-one → (t : Bool) → fifo .tc ≡ t
+              → (h .told ≡ true) ⊎ (length (h .finished) * sizeOf (g .n) ≤ length (h .host))
+          with-none none true e = inl (b .tc e (b .timely none))
+          with-none none false e = inr (stream-within (h .host) _ _ (fifo .tc) e (none-stream none))
+
+          go : (x : Begun) → h .begun ≡ x
+              → (h .told ≡ true) ⊎ (length (h .finished) * sizeOf (g .n) ≤ length (h .host))
+          go no-one e = with-none e (fifo .tc) refl
+          go (some-of at bytes) e =
+              let own = b .sofar .fed (length (h .finished)) (rw e (omega arith)) in
+              inr (omega arith)
+
+      not-short : h .told ≡ false → length (h .host) < length (h .finished) * sizeOf (g .n) → ⊥
+      not-short t l = go all-full
+        where
+          go : (h .told ≡ true) ⊎ (length (h .finished) * sizeOf (g .n) ≤ length (h .host)) → ⊥
+          go (inl x) = true≢false (sym x ∙ t)
+          go (inr x) = omega arith
+
       -- 01 Result: an end that is no Next
-      pub fails-says : (verdict : Verdict) (st1 : ℕ) → FitsFifo efifo fifo → Fails st1 site task verdict
-          → (st1 ≡ 0x80 → ⊥) → (h .begun ≡ no-one) ⊎ ((st1 ≡ 0x10) ⊎ (st1 ≡ 0x01)) → Says verdict h
-      fails-says verdict st1 f v other why =
+      pub ended-says : (verdict : Verdict) → FitsFifo efifo fifo
+          → verdict .st0 ≡ st0Of false (site .drive) (site .side) → verdict .id ≡ task .id
+          → (verdict .st1 ≡ 0x80 → ⊥)
+          → (h .begun ≡ no-one) ⊎ ((verdict .st1 ≡ 0x01) ⊎ (verdict .st1 ≡ 0x11)) → Says verdict h
+      ended-says verdict f st0 id other why =
           record {
-            address = v .id ∙ b .id;
-            normal = λ l. absurd (failed-above (site .drive) (site .side) (rw (v .st0) at l));
+            address = id ∙ b .id ∙ ap (λ (k : ℕ). aimNo transfer aim k .id) (sym (shown-all g h all-full));
+            normal = λ l. absurd (failed-above (site .drive) (site .side) (rw st0 at l));
             safe = λ a. absurd (at-risk f a);
-            clean = λ l. absurd (failed-above (site .drive) (site .side) (rw (v .st0) at l));
+            clean = λ l. absurd (failed-above (site .drive) (site .side) (rw st0 at l));
             no-more = no-more-of img h (b .sofar);
-            past-eot = λ e. absurd (other (sym (v .st1-is) ∙ e));
+            past-eot = λ e. absurd (other e);
+            short = λ t l. absurd (not-short t l);
             broken = λ at bytes e. left why at bytes e;
           }
         where
-          left : (h .begun ≡ no-one) ⊎ ((st1 ≡ 0x10) ⊎ (st1 ≡ 0x01)) → (at : ℕ) (bytes : List ℕ)
-              → h .begun ≡ some-of at bytes → (verdict .st1 ≡ 0x10) ⊎ (verdict .st1 ≡ 0x01)
+          left : (h .begun ≡ no-one) ⊎ ((verdict .st1 ≡ 0x01) ⊎ (verdict .st1 ≡ 0x11)) → (at : ℕ) (bytes : List ℕ)
+              → h .begun ≡ some-of at bytes → (verdict .st1 ≡ 0x01) ⊎ (verdict .st1 ≡ 0x11)
           left (inl none) at bytes e = absurd (some≢none at bytes (sym e ∙ none))
-          left (inr (inl t)) at bytes e = inl (v .st1-is ∙ t)
-          left (inr (inr t)) at bytes e = inr (v .st1-is ∙ t)
+          left (inr t) at bytes e = t
 
       -- 01 Write: the broken mark
       busy-begins : (slot : ℕ) → FitsFifo efifo fifo → 0 < fifo .count → InHand (aimNow h) slot → h .begun ≡ no-one
@@ -351,18 +406,21 @@ module _ (g : Geometry) (cylinder drive : ℕ) (transfer : Transfer) (aim : Aim)
           let s : Stream (h .host) (held fifo) (length (h .finished) * sizeOf (g .n) + 0) (fifo .tc) =
           rw none at (b .stream) in
           rw (p, v, note)
-          (busy-stored slot 0 fifo _ [] b hand refl (b .request) s (b .tc) (b .heard)
+          (busy-stored task slot 0 fifo _ [] b (same-order task) hand refl (b .request) s (b .tc) (b .heard)
+          (λ t. absurd (true≢false (sym t ∙ b .timely none)))
           (rw note at left))
 
-      -- 01 Write: one byte, the host's, or a zero after TC
-      busy-puts : (slot done v : ℕ) (fifo′ : Fifo) → InHand (aimNow h) slot → Half (h .begun) (aimNow h) slot done
-          → done < sectorBytes site
-          → v ≡ getD (h .host) (storedCount g h) 0 → Open efifo fifo′ → fifo′ .tc ≡ fifo .tc
-          → Stream (h .host) (held fifo′) (storedCount g h + 1) (fifo .tc)
-          → Busy efifo site task (Storing slot (done + 1)) fifo′ (set img (dataPlace site cylinder slot done) v)
+      -- 01 Write: one byte, the host's, or a zero after TC or where a byte is missing
+      busy-puts : (task′ : Task) (slot done v : ℕ) (fifo′ : Fifo) → SameOrder task task′ → InHand (aimNow h) slot
+          → Half (h .begun) (aimNow h) slot done → done < sectorBytes site
+          → v ≡ getD (h .host) (storedCount g h) 0 → Open efifo fifo′
+          → Stream (h .host) (held fifo′) (storedCount g h + 1) (fifo′ .tc)
+          → (fifo′ .tc ≡ true → task′ .late ≡ false → h .told ≡ true) → (h .told ≡ true → fifo′ .tc ≡ true)
+          → (task′ .late ≡ true → (length (h .host) ≤ storedCount g h) × (h .told ≡ false))
+          → Busy efifo site task′ (Storing slot (done + 1)) fifo′ (set img (dataPlace site cylinder slot done) v)
           (notedStore (Store (dataPlace site cylinder slot done) v) h)
       unfolding dataPlace
-      busy-puts slot done v fifo′ hand half l e o t s =
+      busy-puts task′ slot done v fifo′ same hand half l e o s t u y =
           let bytes = half .bytes in
           let p : markPlace site cylinder slot + 5 + done ≡ here slot + 5 + length bytes =
           omega (arith, mark-is slot b, half .size) in
@@ -370,20 +428,18 @@ module _ (g : Geometry) (cylinder drive : ℕ) (transfer : Transfer) (aim : Aim)
           let k : storedCount g h ≡ length (h .finished) * sizeOf (g .n) + length bytes = rw (half .some) in
           let e′ : v ≡ getD (h .host) (length (h .finished) * sizeOf (g .n) + length bytes) 0 = rw k at e in
           let s′ : Stream (h .host) (held fifo′) (length (h .finished) * sizeOf (g .n) + length bytes + 1)
-          (fifo .tc) = rw k at s in
+          (fifo′ .tc) = rw k at s in
           let left =
           left-puts g cylinder transfer aim old fits hr img h (b .sofar) (here slot) bytes (half .some) (b .all)
-          (here slot + 5 + length bytes) v short refl e′
-          (λ m. b .tc (stream-told (h .host) (held fifo′) _ (fifo .tc) s′ m)) in
+          (here slot + 5 + length bytes) v short refl e′ in
           let note = noted-grown (here slot + 5 + length bytes) v (here slot) bytes h refl (half .some) in
           let n : length (bytes ++ (v ∷ [])) ≡ length bytes + 1 = length-append bytes (v ∷ []) in
           let m : length (h .finished) * sizeOf (g .n) + length bytes + 1
           ≡ length (h .finished) * sizeOf (g .n) + length (bytes ++ (v ∷ [])) = omega arith in
           rw (p, note)
-          (busy-stored slot (done + 1) fifo′ _ (bytes ++ (v ∷ [])) b hand (omega (arith, half .size)) o
-          (subst (λ (j : ℕ). Stream (h .host) (held fifo′) j (fifo′ .tc)) m (rw t s′))
-          (λ q. b .tc (sym t ∙ q))
-          (λ q. t ∙ b .heard q)
+          (busy-stored task′ slot (done + 1) fifo′ _ (bytes ++ (v ∷ [])) b same hand (omega (arith, half .size)) o
+          (subst (λ (j : ℕ). Stream (h .host) (held fifo′) j (fifo′ .tc)) m s′) t u
+          (λ q. record { beyond = omega (arith, y q .0); untold = y q .1 })
           (rw note at left))
 
       -- 01 Write: the good mark
@@ -410,13 +466,36 @@ module _ (g : Geometry) (cylinder drive : ℕ) (transfer : Transfer) (aim : Aim)
             omega arith,
           )
 
-      -- 01 Next, Result: where Next ends it
-      next-says : (at : ℕ) (bytes : List ℕ) (img′ : List ℕ) (verdict : Verdict) → FitsFifo efifo fifo
-          → NextEnds (fifo .tc && eqb (fifo .count) 0) site task verdict
+      -- 02 2026-02: a byte was missing: it ends with this sector
+      short-says : (at : ℕ) (bytes : List ℕ) (img′ : List ℕ) (verdict : Verdict) → task .late ≡ true
+          → verdict .st0 ≡ st0Of false (site .drive) (site .side) → verdict .st1 ≡ 0x10 → verdict .st2 ≡ 0x00
+          → verdict .id ≡ task .id
           → storedCount g h ≡ storedCount g (closed at bytes h)
           → Sofar img′ (closed at bytes h)
           → Says verdict (closed at bytes h)
-      next-says at bytes img′ verdict f v n k = go (fifo .tc && eqb (fifo .count) 0) refl v
+      short-says at bytes img′ verdict tardily st0 st1 st2 id n k =
+          let m = b .late tardily in
+          let few : length (h .host) < suc (length (h .finished)) * sizeOf (g .n) = omega (arith, m .beyond) in
+          let one : suc (length (h .finished)) - 1 ≡ length (h .finished) = omega arith in
+          record {
+            address = id ∙ b .id ∙ ap (λ (k : ℕ). aimNo transfer aim k .id)
+                (sym (shown-short g (closed at bytes h) (m .untold) few ∙ one));
+            normal = λ l. absurd (failed-above (site .drive) (site .side) (rw st0 at l));
+            safe = λ a. absurd (true≢false (sym (a .told) ∙ m .untold));
+            clean = λ l. absurd (failed-above (site .drive) (site .side) (rw st0 at l));
+            no-more = no-more-of img′ _ k;
+            past-eot = λ e. absurd (omega (arith, st1));
+            short = λ t l. (st1, st2);
+            broken = λ x y e. absurd (some≢none x y (sym e));
+          }
+
+      -- 01 Next, Result: where Next ends it
+      next-says : (at : ℕ) (bytes : List ℕ) (img′ : List ℕ) (verdict : Verdict) → FitsFifo efifo fifo
+          → task .late ≡ false → NextEnds (fifo .tc && eqb (fifo .count) 0) site task verdict
+          → storedCount g h ≡ storedCount g (closed at bytes h)
+          → Sofar img′ (closed at bytes h)
+          → Says verdict (closed at bytes h)
+      next-says at bytes img′ verdict f on-time v n k = go (fifo .tc && eqb (fifo .count) 0) refl v
         where
           k-is : storedCount g h ≡ suc (length (h .finished)) * sizeOf (g .n)
           k-is = n ∙ omega arith
@@ -425,8 +504,15 @@ module _ (g : Geometry) (cylinder drive : ℕ) (transfer : Transfer) (aim : Aim)
           stream′ = rw k-is at (b .stream)
 
           address-is : verdict .id ≡ advancedOf (task .id) (task .transfer .eot) (task .transfer .mt) (site .side) 1
-              → verdict .id ≡ aimNo transfer aim (suc (length (h .finished))) .id
-          address-is e = e ∙ rw (b .id, b .told-to, b .side)
+              → (h .told ≡ true) ⊎ (suc (length (h .finished)) * sizeOf (g .n) ≤ length (h .host))
+              → verdict .id ≡ aimNo transfer aim (shownNumber g (closed at bytes h)) .id
+          address-is e full =
+              let there : verdict .id ≡ aimNo transfer aim (suc (length (h .finished))) .id =
+              e ∙ rw (b .id, b .told-to, b .side) in
+              there ∙ ap (λ (k : ℕ). aimNo transfer aim k .id) (sym (shown-all g (closed at bytes h) full))
+
+          st1-is : (t : Bool) → NextEnds t site task verdict → verdict .st1 ≡ cond t 0x00 0x80
+          st1-is t w = w .st1 ∙ rw on-time (omega arith)
 
           at-eot : (m : ℕ) → m + 1 ≡ suc (length (h .finished)) → task .id .r ≡ task .transfer .eot
               → aimNo transfer aim m .id .r ≡ transfer .eot
@@ -438,23 +524,27 @@ module _ (g : Geometry) (cylinder drive : ℕ) (transfer : Transfer) (aim : Aim)
               → Says verdict (closed at bytes h)
           go true t w =
               let (tc, z) = test-on (fifo .tc) (fifo .count) t in
+              let told = b .tc tc on-time in
+              let st1 : verdict .st1 ≡ 0x00 = st1-is true w in
               record {
-                address = address-is (w .id);
+                address = address-is (w .id) (inl told);
                 normal = λ l. record {
-                  told = b .tc tc;
+                  told = told;
                   none = refl;
                   all = held-none efifo fifo f (h .host) _ z stream′;
                 };
                 safe = λ a. rw (w .st0) (normal-below (site .drive) (site .side));
-                clean = λ l. (w .st1, w .st2 ∙ ap otherBit (b .plain));
+                clean = λ l. (st1, w .st2 ∙ ap otherBit (b .plain));
                 no-more = no-more-of img′ _ k;
-                past-eot = λ e. absurd (omega (arith, w .st1));
+                past-eot = λ e. absurd (omega arith);
+                short = λ t l. absurd (true≢false (sym told ∙ t));
                 broken = λ x y e. absurd (some≢none x y (sym e));
               }
           go false t w =
               let on = test-off (fifo .tc) (fifo .count) t in
+              let whole = within (fifo .tc) refl on in
               record {
-                address = address-is (w .id);
+                address = address-is (w .id) (inr whole);
                 normal = λ l. absurd (failed-above (site .drive) (site .side) (rw (w .st0) at l));
                 safe = λ a. absurd (omega (
                   arith,
@@ -467,8 +557,9 @@ module _ (g : Geometry) (cylinder drive : ℕ) (transfer : Transfer) (aim : Aim)
                   none = refl;
                   some = omega arith;
                   last = λ m z. at-eot m z (w .eot refl);
-                  whole = within (fifo .tc) refl on;
+                  whole = whole;
                 };
+                short = λ t l. absurd (omega arith);
                 broken = λ x y e. absurd (some≢none x y (sym e));
               }
             where
@@ -485,15 +576,15 @@ module _ (g : Geometry) (cylinder drive : ℕ) (transfer : Transfer) (aim : Aim)
 
       -- and Next in that same tick
       busy-next : (slot done : ℕ) (o : Step) → FitsFifo efifo fifo → InHand (aimNow h) slot
-          → Half (h .begun) (aimNow h) slot done → sectorBytes site ≤ done
+          → Half (h .begun) (aimNow h) slot done → sectorBytes site ≤ done → task .late ≡ false
           → NextRule (fifo .tc && eqb (fifo .count) 0) slot site task fifo (Store (markPlace site cylinder slot) (writtenMark false task)) o
           → OnStep efifo o img h
-      busy-next slot done o f hand half l (stops verdict v e) =
+      busy-next slot done o f hand half l on-time (stops verdict v e) =
           let note = noted-closed (markPlace site cylinder slot) (writtenMark false task) (here slot)
           (half .bytes) h (mark-is slot b) (half .some) in
           let (k, n) = closes slot done hand half l in
-          rw (e, note) (k, next-says _ (half .bytes) _ verdict f v n k)
-      busy-next slot done o f hand half l (turns u r t d e) =
+          rw (e, note) (k, next-says _ (half .bytes) _ verdict f on-time v n k)
+      busy-next slot done o f hand half l on-time (turns u r t d e) =
           let note = noted-closed (markPlace site cylinder slot) (writtenMark false task) (here slot)
           (half .bytes) h (mark-is slot b) (half .some) in
           let (k, n) = closes slot done hand half l in
@@ -515,10 +606,12 @@ module _ (g : Geometry) (cylinder drive : ℕ) (transfer : Transfer) (aim : Aim)
             stream = subst (λ (j : ℕ). Stream (h .host) (held fifo) j (fifo .tc)) n (b .stream);
             tc = b .tc;
             heard = b .heard;
+            late = λ x. absurd (true≢false (sym x ∙ on-time));
+            timely = λ x. on-time;
             more = λ x y. test-off (fifo .tc) (fifo .count) u x;
             sofar = k;
           })
-      busy-next slot done o f hand half l (steps u r e) =
+      busy-next slot done o f hand half l on-time (steps u r e) =
           let note = noted-closed (markPlace site cylinder slot) (writtenMark false task) (here slot)
           (half .bytes) h (mark-is slot b) (half .some) in
           let (k, n) = closes slot done hand half l in
@@ -546,9 +639,24 @@ module _ (g : Geometry) (cylinder drive : ℕ) (transfer : Transfer) (aim : Aim)
             stream = subst (λ (j : ℕ). Stream (h .host) (held fifo) j (fifo .tc)) n (b .stream);
             tc = b .tc;
             heard = b .heard;
+            late = λ x. absurd (true≢false (sym x ∙ on-time));
+            timely = λ x. on-time;
             more = λ x y. test-off (fifo .tc) (fifo .count) u x;
             sofar = k;
           })
+
+      -- it waits with no sector begun
+      waits-none : (x : Stage) → Waits x → Link (aimNow h) (h .begun) x → h .begun ≡ no-one
+      waits-none (Searching look) w k = absurd w
+      waits-none (Turning slot) w k = absurd w
+      waits-none (Reading sector done) w k = absurd w
+      waits-none (Draining sector looks) w k = absurd k
+      waits-none (Awaiting slot wait) w k = k .1
+      waits-none (Storing slot done) w k = absurd w
+
+      off : (t : Bool) → (t ≡ true → ⊥) → t ≡ false
+      off true n = absurd (n refl)
+      off false n = refl
 
       -- a tick of it, by its rule
       pub busy-rule : (o : Step) → FitsFifo efifo fifo → o ≡ stageOf stage site task cylinder img fifo efifo fifothr
@@ -556,12 +664,25 @@ module _ (g : Geometry) (cylinder drive : ℕ) (transfer : Transfer) (aim : Aim)
       unfolding stageOf hasTrack drawnOf
       busy-rule o f is (notFound look verdict p t l m x y v e) =
           let (k, none) = rw p at (b .link) in
-          rw e (b .sofar, fails-says verdict x f v (not-80 x y) (inl none))
+          rw e (
+            b .sofar,
+            ended-says verdict f (v .st0) (v .id)
+                (λ z. not-80 (task .late) x y (sym (v .st1-is) ∙ z)) (inl none),
+          )
       busy-rule o f is (noData look verdict p t r m v e) = no-read b r
       busy-rule o f is (noSide slot verdict p ns v e) =
           let (on-disk, on-track, none) = rw p at (b .link) in
-          rw e (b .sofar, fails-says verdict 0x01 f v (λ z. omega arith) (inl none))
-      busy-rule o f is (late verdict v l e) = rw e (b .sofar, fails-says verdict 0x10 f v (λ z. omega arith) (inr (inl refl)))
+          rw e (
+            b .sofar,
+            ended-says verdict f (v .st0) (v .id)
+                (λ z. not-80 (task .late) 0x01 (inl refl) (sym (v .st1-is) ∙ z)) (inl none),
+          )
+      busy-rule o f is (late verdict v l w e) =
+          rw e (
+            b .sofar,
+            ended-says verdict f (v .st0) (v .id) (λ z. omega (arith, v .st1-is))
+                (inl (waits-none stage w (b .link))),
+          )
       busy-rule o f is (misses look on p t l a q e) =
           let (k, none) = rw p at (b .link) in
           let l′ : look .slot + 1 < g .slots = rw (b .disk) at l in
@@ -608,18 +729,42 @@ module _ (g : Geometry) (cylinder drive : ℕ) (transfer : Transfer) (aim : Aim)
           let (hand, half) = rw p at (b .link) in
           let (v, s) = held-drawn efifo fifo f (h .host) (storedCount g h) fifothr c (b .stream) in
           rw e
-          (busy-puts slot done (frontOf fifo) (drawnOf efifo fifothr fifo) hand half l v
-          (open-drawn efifo fifothr fifo (b .request)) refl s)
+          (busy-puts task slot done (frontOf fifo) (drawnOf efifo fifothr fifo) (same-order task) hand half l v
+          (open-drawn efifo fifothr fifo (b .request)) s (b .tc) (b .heard)
+          (λ t. absurd (omega (arith, b .late t .beyond, held-more efifo fifo f (h .host) _ c (b .stream)))))
       busy-rule o f is (pads slot done p l c t e) =
           let (hand, half) = rw p at (b .link) in
           let (v, s) = held-dry efifo fifo f (h .host) (storedCount g h) c t (b .stream) in
-          rw e (busy-puts slot done 0 fifo hand half l (sym v) (b .request) refl s)
-      busy-rule o f is (finishes slot done p l n) =
+          rw e
+          (busy-puts task slot done 0 fifo (same-order task) hand half l (sym v) (b .request) s (b .tc) (b .heard)
+          (λ t. (omega (arith, b .late t .beyond), b .late t .untold)))
+      busy-rule o f is (dries slot done p l c t e) =
           let (hand, half) = rw p at (b .link) in
-          busy-next slot done o f hand half l n
+          let none = held-none efifo fifo f (h .host) (storedCount g h) c (b .stream) in
+          rw e
+          (busy-puts (tardy task) slot done 0 shut (record { transfer = refl; other = refl; id = refl }) hand half l
+          (sym (List·getD-eq-default (h .host) 0 none)) (open-shut efifo) (dried refl refl (omega arith))
+          (λ x y. absurd (true≢false y)) (λ x. refl)
+          (λ x. (none, off (h .told) (λ y. true≢false (sym (b .heard y) ∙ t)))))
+      busy-rule o f is (ends-short slot done verdict p l y st2 v e) =
+          let (hand, half) = rw p at (b .link) in
+          let note = noted-closed (markPlace site cylinder slot) (writtenMark false task) (here slot)
+          (half .bytes) h (mark-is slot b) (half .some) in
+          let (k, n) = closes slot done hand half l in
+          rw (e, note) (
+            k,
+            short-says _ (half .bytes) _ verdict y (v .st0) (v .st1-is) (st2 ∙ ap (λ (x : Bool). otherBit x + 0x00) (b .plain))
+                (v .id) n k,
+          )
+      busy-rule o f is (finishes slot done p l y n) =
+          let (hand, half) = rw p at (b .link) in
+          busy-next slot done o f hand half l y n
       busy-rule o f is (moves sector done fifo′ p l x e) = absurd (rw p at (b .link))
       busy-rule o f is (moves-last sector done fifo′ p l x e) = absurd (rw p at (b .link))
+      busy-rule o f is (overruns sector done p l x y e) = absurd (rw p at (b .link))
+      busy-rule o f is (overruns-last sector done p l x y e) = absurd (rw p at (b .link))
       busy-rule o f is (drains sector looks p l e) = absurd (rw p at (b .link))
       busy-rule o f is (data-error sector looks verdict p q s v e) = absurd (rw p at (b .link))
-      busy-rule o f is (other-kind sector looks verdict p q z ok os v zc e) = absurd (rw p at (b .link))
-      busy-rule o f is (drained sector looks p q ok zc n) = absurd (rw p at (b .link))
+      busy-rule o f is (ends-late sector looks verdict p q z v e) = absurd (rw p at (b .link))
+      busy-rule o f is (other-kind sector looks verdict p q y z ok os v zc e) = absurd (rw p at (b .link))
+      busy-rule o f is (drained sector looks p q y ok zc n) = absurd (rw p at (b .link))

@@ -1,6 +1,6 @@
--- Demand 3: the read after the cut ends with the data error, or late (specs/DataError), over every list of calls.
+-- Demand 3: the read after the cut ends with the data error (specs/DataError), over every list of calls.
 -- Assumes nothing.
-use Prim.Native.Nat.{ℕ, _≤_, _<_}
+use Prim.Native.Nat.{ℕ, _+_, _≤_, _<_}
 use native.Mathlib.Omega.{arith}
 use mathlib.Core.Bool.{Bool, Bool·beq, true, false, not}
 use mathlib.Core.List.{List, [], _∷_}
@@ -9,7 +9,7 @@ use mathlib.Core.Path.{_≡_, refl, sym, ap, _∙_}
 use lib.ListN.{length, getD}
 use Rattle.sectors.specs.declared.order.Order.{Order}
 use Rattle.sectors.specs.declared.order.Transfer.{Transfer}
-use Rattle.sectors.specs.declared.work.Site.{Site}
+use Rattle.sectors.specs.Result.{lateBit}
 use Rattle.image.specs.declared.disk.Disk.the-variants.{Present}
 use Rattle.image.specs.declared.layout.Geometry.{Geometry}
 use Rattle.image.specs.declared.mark.Mark.the-variants.{Data}
@@ -21,23 +21,21 @@ use Rattle.image.specs.Sound.{Sound}
 use Rattle.image.proofs.DiskLaws.{fits-present}
 use Rattle.image.proofs.MarkLaws.{mark-of-byte}
 use Rattle.fdc.specs.declared.record.Controller.{Controller}
-use Rattle.reached.specs.Moves.{tickCount}
-use Rattle.reached.specs.Runs.{Call}
-use Rattle.demands.specs.Acknowledged.{resultByte}
-use Rattle.demands.specs.DataError.{ReadsThere, Spins, DataErrorOrLate, DataErrorAt, DataError, DataErrorInTime}
-use Rattle.demands.specs.EndsInTime.{boundOf}
-use Rattle.demands.specs.History.{Sector, Begun, no-one, some-of, History, noHistory, historyOf}
-use Rattle.demands.specs.InTime.{AtTicks}
-use Rattle.demands.specs.PowerCut.{Aim, Stands, Spares, AllFinished, BegunHalf, SparesAll, SparesBegun, LeftBy, Writes, headOf}
-use Rattle.demands.specs.Work.{Real, Its, imageLeft, Alone, EndsWith}
+use Rattle.demands.specs.DataError.{ReadsThere, DataErrorAt, DataErrorTold, Drained}
+use Rattle.demands.specs.DataError.{DataErrorIf, DataErrorInTime, DataError}
+use Rattle.demands.specs.History.{Sector, Begun, no-one, some-of, History}
+use Rattle.demands.specs.InTime.{Timely}
+use Rattle.demands.specs.PowerCut.{Aim, Stands, Spares, AllFinished, BegunHalf, SparesAll}
+use Rattle.demands.specs.PowerCut.{SparesBegun, LeftBy, headOf}
+use Rattle.demands.specs.Work.{Real, imageLeft}
 use Rattle.demands.specs.Quiet.{Quiet}
-use Rattle.demands.proofs.CourseLaws.{low-drive, ends-map, all-ticks}
+use Rattle.demands.proofs.CourseLaws.{low-drive, ends-map}
 use Rattle.demands.proofs.CutLaws.{marked-counts}
 use Rattle.demands.proofs.EndsLaws.{ends-in-time-quiet}
 use Rattle.demands.proofs.PowerCutLaws.{power-cut-quiet}
 use Rattle.demands.proofs.QuietLaws.{quiet-real}
 use Rattle.demands.proofs.FollowLaws.{StopsAt, siteAt, differs, has-before}
-use Rattle.demands.proofs.StopLaws.{StopsOr, ReadOver, LateIs, ends-so}
+use Rattle.demands.proofs.StopLaws.{ReadOver, Serving, timely-serves, ends-so}
 use Rattle.demands.proofs.TickRules.{beq-same}
 
 -- the image as left has the disk that it had: no sector of the command touches the header
@@ -121,89 +119,72 @@ module _ (g : Geometry) (cylinder : ℕ) (transfer : Transfer) (aim : Aim) (old 
       turned (inl x) = inl (sym x)
       turned (inr x) = inr x
 
--- Demand 3, after the power cut
-module _ (c : Controller) (qc : Quiet c) (order : Order) (transfer : Transfer) (id : Id)
-    (w : Writes c order transfer id) (old : List ℕ) (g : Geometry) (sound : Sound g old) (calls : List Call)
-    (its : Its calls c) (alone : Alone (order .drive) old calls c) (at : ℕ) (bytes : List ℕ)
-    (q : historyOf calls c noHistory .begun ≡ some-of at bytes) (e : Controller) (qe : Quiet e) (order′ : Order) (transfer′ : Transfer)
-    (id′ : Id) (r : ReadsThere e order′ transfer′ id′ g old at)
-    (own : (transfer′ .deleted ≡ transfer .deleted) ⊎ (transfer′ .sk ≡ false)) (L : Type 0) where
-  abbrev there : Site
-  there = siteAt (order′ .drive) (order′ .side) g
-
-  ends-over : (calls′ : List Call) → Spins (order′ .drive) calls′ e
-      → Alone (order′ .drive) (imageLeft (order .drive) old calls c) calls′ e → boundOf g ≤ tickCount calls′
-      → AtTicks (LateIs L) calls′ e
-      → EndsWith (ReadOver true (differs (transfer .deleted) transfer′) there id′ L) calls′ e
-  ends-over calls′ spins alone′ more timely =
-      let present = fits-present old g (sound .fits) in
-      let img : List ℕ = imageLeft (order .drive) old calls c in
-      let left = power-cut-quiet c qc order transfer id w old g present calls its alone in
-      let disk : diskIn img ≡ Present g = disk-left g _ transfer _ old img _ left ∙ present in
-      ends-so img g disk order′ (low-drive e order′ qe (r .accepted)) (headOf order′ e) (r .slot) transfer′ id′
-      (r .moves) (transfer .deleted) true
-      (starts-broken g _ transfer _ old img _ left sound at bytes q e order′ transfer′ id′ r own) L
-      calls′ e qe refl (r .accepted) spins alone′ timely
-      (ends-in-time-quiet e qe order′ (r .accepted) img g disk calls′ alone′ more)
-
 beq-other : (a b : Bool) → (a ≡ b → ⊥) → not (Bool·beq b a) ≡ true
 beq-other true true e = absurd (e refl)
 beq-other true false e = refl
 beq-other false true e = refl
 beq-other false false e = absurd (e refl)
 
--- ST2 by the kind
-module _ (transfer written : Transfer) (order : Order) (g : Geometry) (id : Id) (c : Controller) where
-  abbrev differ : Bool
-  differ = differs (written .deleted) transfer
+-- the read is over: as the broken mark says
+abbrev Errs : Type 0 → Order → Id → Transfer → Transfer → Geometry → Controller → Type 0
+Errs L order id transfer written g c =
+    ReadOver true (differs (written .deleted) transfer) (siteAt (order .drive) (order .side) g) id L c
 
-  pub error-at : ReadOver true differ (siteAt (order .drive) (order .side) g) id ⊥ c → DataErrorAt order id transfer written c
-  error-at o = go (o .bytes)
-    where
-      go : StopsOr true differ (siteAt (order .drive) (order .side) g) id ⊥ c → DataErrorAt order id transfer written c
-      go (inl (a, b, d, i)) =
-          record {
-            waits = o .waits;
-            st0 = a;
-            st1 = b;
-            own-kind = λ k. rw (beq-same _ _ (sym k)) at d;
-            other-kind = λ k. rw (beq-other _ _ k) at d;
-            address = i;
-          }
-      go (inr (a, l)) = absurd l
+-- Demand 3, after the power cut, of a read that is served so
+pub data-error-if : (Served : Controller → Type 0) (L : Type 0) → Serving Served L
+    → (Ends : Order → Id → Transfer → Transfer → Controller → Type 0)
+    → ((order : Order) (id : Id) (transfer written : Transfer) (g : Geometry) (c : Controller)
+    → Errs L order id transfer written g c → Ends order id transfer written c)
+    → DataErrorIf Served Ends Quiet
+data-error-if Served L serving Ends said c qc order transfer id w old g sound calls its alone at bytes q e qe order′
+    transfer′ id′ r own calls′ spins alone′ more served =
+    let present = fits-present old g (sound .fits) in
+    let img : List ℕ = imageLeft (order .drive) old calls c in
+    let left = power-cut-quiet c qc order transfer id w old g present calls its alone in
+    let disk : diskIn img ≡ Present g = disk-left g _ transfer _ old img _ left ∙ present in
+    ends-map _ _ (said order′ id′ transfer′ transfer g) calls′ e
+    (ends-so img g disk order′ (low-drive e order′ qe (r .accepted)) (headOf order′ e) (r .slot) transfer′ id′
+    (r .moves) (transfer .deleted) true
+    (starts-broken g _ transfer _ old img _ left sound at bytes q e order′ transfer′ id′ r own) Served L serving
+    (λ l. refl) calls′ e qe refl (r .accepted) spins alone′ served
+    (ends-in-time-quiet e qe order′ (r .accepted) img g disk calls′ alone′ more))
 
-  pub error-or-late : transfer .deleted ≡ written .deleted
-      → ReadOver true differ (siteAt (order .drive) (order .side) g) id (Unit {0}) c → DataErrorOrLate c
-  error-or-late k o = record { waits = o .waits; bytes = go (o .bytes) }
+-- ST2 by the kind, ST1 by whether a byte was lost
+module _ (order : Order) (id : Id) (transfer written : Transfer) (g : Geometry) (c : Controller) where
+  error-at : {L : Type 0} → (o : Errs L order id transfer written g c)
+      → DataErrorAt (lateBit (o .late) + 0x20) order id transfer written c
+  error-at o =
+      record {
+        waits = o .waits;
+        st0 = o .st0;
+        st1-is = o .st1;
+        own-kind = λ k. rw (beq-same _ _ (sym k)) at (o .st2);
+        other-kind = λ k. rw (beq-other _ _ k) at (o .st2);
+        address = o .address;
+      }
+
+  none-lost : Errs ⊥ order id transfer written g c → DataErrorAt 0x20 order id transfer written c
+  none-lost o = go (o .late) (o .lost) (error-at o)
     where
-      go : StopsOr true differ (siteAt (order .drive) (order .side) g) id (Unit {0}) c
-          → ((resultByte 1 c ≡ 0x20) × (resultByte 2 c ≡ 0x20)) ⊎ (resultByte 1 c ≡ 0x10)
-      go (inl (a, b, d, i)) = inl (b, rw (beq-same _ _ (sym k)) at d)
-      go (inr (a, l)) = inr a
+      go : (late : Bool) → (late ≡ true → ⊥) → DataErrorAt (lateBit late + 0x20) order id transfer written c
+          → DataErrorAt 0x20 order id transfer written c
+      go true n d = absurd (n refl)
+      go false n d = d
+
+  lost-or-not : Errs (Unit {0}) order id transfer written g c → DataErrorTold order id transfer written c
+  lost-or-not o = go (o .late) (error-at o)
+    where
+      go : (late : Bool) → DataErrorAt (lateBit late + 0x20) order id transfer written c
+          → DataErrorTold order id transfer written c
+      go true d = inr d
+      go false d = inl d
 
 pub data-error-in-time-quiet : DataErrorInTime Quiet
-data-error-in-time-quiet c qc order transfer id w old g sound calls its alone at bytes q e qe order′ transfer′ id′ r
-    own calls′ spins alone′ more timely =
-    ends-map _ _ (error-at transfer′ transfer order′ g id′) calls′ e
-    (ends-over c qc order transfer id w old g sound calls its alone at bytes q e qe order′ transfer′
-    id′ r own ⊥ calls′ spins alone′ more timely)
+data-error-in-time-quiet = data-error-if Timely ⊥ timely-serves (DataErrorAt 0x20) none-lost
 
 pub data-error-quiet : DataError Quiet
-data-error-quiet c qc order transfer id w old g sound calls its alone at bytes q e qe order′ transfer′ id′ r calls′
-    spins alone′ more =
-    ends-map _ _ (λ x. error-or-late transfer′ transfer order′ g id′ x (r .kind)) calls′ e
-    (ends-over c qc order transfer id w old g sound calls its alone at bytes q e qe order′ transfer′
-    id′
-    (record {
-      accepted = r .accepted;
-      moves = r .moves;
-      reads = r .reads;
-      slot = r .slot;
-      has = r .has;
-      there = r .there;
-      address = r .address;
-    })
-    (inl (r .kind)) (Unit {0}) calls′ spins alone′ more (all-ticks _ (λ x l. tt) calls′ e))
+data-error-quiet =
+    data-error-if Drained (Unit {0}) (record { drained = λ c d. d; lost = λ c d l. tt }) DataErrorTold lost-or-not
 
 pub data-error-in-time : DataErrorInTime Real
 data-error-in-time c r order transfer id w old g sound calls its alone at bytes q e r′ =

@@ -1,5 +1,5 @@
 -- The FIFO of a write as a stream (01 FIFO, from host; 01 Write): what it holds are the host's bytes behind those that
--- were stored; once they are all stored, and only after TC, zeros follow.
+-- were stored; once they are all stored and no byte follows, after TC or a late byte, zeros do.
 -- Assumes nothing.
 use Prim.Native.Nat.{ℕ, suc, _+_, _-_, _≤_, _<_}
 use native.Mathlib.Omega.{arith}
@@ -13,7 +13,7 @@ use lib.Seq.{drop-append-le, drop-cons, drop-nil, length-take-le}
 use borrow.Author.Tests.{ltb-true, leb-false, lt-leb}
 use Rattle.image.proofs.TestLaws.{both}
 use Rattle.chip.specs.declared.fifo.Fifo.{Fifo}
-use Rattle.chip.specs.Fifo.{capacityOf, writeLevel, fullOf, held, frontOf, emptied, openedOf, givenOf, drawnOf, FitsFifo}
+use Rattle.chip.specs.Fifo.{capacityOf, writeLevel, fullOf, held, frontOf, emptied, openedOf, givenOf, drawnOf, shut, FitsFifo}
 use Rattle.chip.proofs.FifoLaws.{given-held, drawn-held}
 
 -- 01 FIFO, from host: a request is on only before TC and below capacity
@@ -38,6 +38,9 @@ room-empty false = refl
 pub open-opened : (efifo : Bool) → Open efifo (openedOf emptied)
 unfolding openedOf
 open-opened efifo = record { before-tc = λ a. refl; room = λ a. room-empty efifo }
+
+pub open-shut : (efifo : Bool) → Open efifo shut
+open-shut efifo = record { before-tc = λ a. absurd (false≢true a); room = λ a. absurd (false≢true a) }
 
 not-both : (a b : Bool) → (not a && b) ≡ true → a ≡ false
 not-both true b e = absurd (false≢true e)
@@ -95,10 +98,10 @@ pub stream-within : (host rest : List ℕ) (k : ℕ) (tc : Bool) → tc ≡ fals
 stream-within host rest k tc off (flows h e) = h
 stream-within host rest k tc off (dried t e h) = absurd (true≢false (sym t ∙ off))
 
--- what is stored past the host's bytes is stored after TC
-pub stream-told : (host rest : List ℕ) (k : ℕ) (tc : Bool) → Stream host rest k tc → length host < k → tc ≡ true
-stream-told host rest k tc (flows h e) l = absurd (omega arith)
-stream-told host rest k tc (dried t e h) l = t
+-- what is stored past the host's bytes is stored when no byte follows
+pub stream-shut : (host rest : List ℕ) (k : ℕ) (tc : Bool) → Stream host rest k tc → length host < k → tc ≡ true
+stream-shut host rest k tc (flows h e) l = absurd (omega arith)
+stream-shut host rest k tc (dried t e h) l = t
 
 cons-length : (host rest : List ℕ) (k byte : ℕ) → byte ∷ rest ≡ drop k host → k < length host
 cons-length host rest k byte e =

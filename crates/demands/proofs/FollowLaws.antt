@@ -1,5 +1,5 @@
 -- A read that its first sector stops, under a broken mark or, with SK 0, under one of the other kind: every tick of it
--- goes on towards that sector's end, and it ends there, or late (01 Search, Read).
+-- goes on towards that sector's end, and it ends there, with the 10 of a late byte or without (01 Search, Read).
 -- Assumes nothing.
 use Prim.Native.Nat.{ℕ, _+_, _≤_, _<_}
 use native.Mathlib.Omega.{arith}
@@ -11,6 +11,7 @@ use lib.Dec.{eqb}
 use lib.ListN.{getD}
 use borrow.Author.Tests.{eqb-true, eq-eqb}
 use Rattle.chip.specs.declared.fifo.Fifo.{Fifo}
+use Rattle.chip.specs.Fifo.{shut}
 use Rattle.sectors.specs.declared.order.Pass.{Pass}
 use Rattle.sectors.specs.declared.order.Pass.the-variants.{Read, Write}
 use Rattle.sectors.specs.declared.order.Transfer.{Transfer}
@@ -22,7 +23,7 @@ use Rattle.sectors.specs.declared.work.Step.{Step}
 use Rattle.sectors.specs.declared.work.Task.{Task}
 use Rattle.sectors.specs.declared.work.Verdict.{Verdict}
 use Rattle.engine.specs.First.{taskOf}
-use Rattle.sectors.specs.Result.{st0Of, otherBit, movesOf}
+use Rattle.sectors.specs.Result.{st0Of, otherBit, lateBit, movesOf}
 use Rattle.sectors.specs.Search.{matches}
 use Rattle.sectors.specs.Track.{markPlace}
 use Rattle.image.specs.declared.layout.Geometry.{Geometry}
@@ -39,6 +40,7 @@ use Rattle.demands.proofs.TickRules.{
   marked,
   hits,
   endsWith,
+  Waits,
   Rule,
   notFound,
   noData,
@@ -54,11 +56,16 @@ use Rattle.demands.proofs.TickRules.{
   begins,
   puts,
   pads,
+  dries,
+  ends-short,
   finishes,
   moves,
   moves-last,
+  overruns,
+  overruns-last,
   drains,
   data-error,
+  ends-late,
   other-kind,
   drained,
 }
@@ -106,27 +113,28 @@ otherIn other (Draining sector looks) = other
 otherIn other (Awaiting slot wait) = false
 otherIn other (Storing slot done) = false
 
-abbrev pub taskOn : Bool → Transfer → Id → Stage → Task
-taskOn other transfer id stage = record { transfer = transfer; id = id; other = otherIn other stage }
+abbrev pub taskOn : Bool → Bool → Transfer → Id → Stage → Task
+taskOn other lost transfer id stage =
+    record { transfer = transfer; id = id; other = otherIn other stage; late = lost }
 
 -- 01 Read: broken, in ST1 and ST2
 abbrev pub errorBit : Bool → ℕ
 errorBit broken = cond broken 0x20 0x00
 
--- broken 40, ST1 20, ST2 20 or 60, else IC 00, ST1 00, ST2 40; the sector's address. Or ST1 10, since it came late
-abbrev pub EndsSo : Bool → Bool → Site → Id → Type 0 → Verdict → Type 0
-EndsSo broken other site id L v =
-    ((v .st0 ≡ st0Of (not broken) (site .drive) (site .side)) × (v .st1 ≡ errorBit broken)
-    × (v .st2 ≡ otherBit other + errorBit broken) × (v .id ≡ id))
-    ⊎ ((v .st1 ≡ 0x10) × L)
+-- broken 40, ST1 20, ST2 20 or 60, else IC 00, ST1 00, ST2 40; beside it ST1's 10 of a late byte; the sector's address
+abbrev pub EndsSo : Bool → Bool → Bool → Site → Id → Verdict → Type 0
+EndsSo broken other lost site id v =
+    (v .st0 ≡ st0Of (not broken) (site .drive) (site .side)) × (v .st1 ≡ lateBit lost + errorBit broken)
+    × (v .st2 ≡ otherBit other + errorBit broken) × (v .id ≡ id)
 
--- what a tick of it gives
+-- what a tick of it gives; L is what a lost byte stands for
 pub data Follow (broken other : Bool) (t : ℕ) (site : Site) (transfer : Transfer) (id : Id) (L : Type 0) (o : Step)
     : Type 0 where
-  goes : (stage : Stage) (fifo : Fifo) → OnStage broken other t stage
-      → o ≡ movesOf stage site (taskOn other transfer id stage) fifo Nothing
+  goes : (lost : Bool) (stage : Stage) (fifo : Fifo) → (lost ≡ true → L) → OnStage broken other t stage
+      → o ≡ movesOf stage site (taskOn other lost transfer id stage) fifo Nothing
       → Follow broken other t site transfer id L o
-  ends : (verdict : Verdict) → EndsSo broken other site id L verdict → o ≡ endsWith verdict Nothing
+  ends : (lost : Bool) (verdict : Verdict) → (lost ≡ true → L) → EndsSo broken other lost site id verdict
+      → o ≡ endsWith verdict Nothing
       → Follow broken other t site transfer id L o
 
 abbrev idOf : ℕ → ℕ → ℕ → ℕ → Id
@@ -203,6 +211,9 @@ module _ (g : Geometry) (img : List ℕ) (head drive side t : ℕ) (kind broken 
   abbrev other : Bool
   other = differs kind transfer
 
+  abbrev site : Site
+  site = siteAt drive side g
+
   -- it is not skipped
   no-skip : (k : Bool) → k ≡ kind → (k ≡ transfer .deleted → ⊥) → transfer .sk ≡ true → ⊥
   no-skip k e n s = go (b .not-skipped)
@@ -211,13 +222,11 @@ module _ (g : Geometry) (img : List ℕ) (head drive side t : ℕ) (kind broken 
       go (inl x) = n (e ∙ x)
       go (inr x) = true≢false (sym s ∙ x)
 
-  module _ (efifo : Bool) (fifothr : ℕ) (fifo : Fifo) (stage : Stage) (o : Step) where
-    abbrev site : Site
-    site = siteAt drive side g
-
-    abbrev L : Type 0
-    L = Late efifo site (taskOn other transfer id stage) fifo stage
-
+  -- a lost byte is L, and only under a broken mark; no look is the 64th that finds bytes
+  module _ (efifo : Bool) (fifothr : ℕ) (fifo : Fifo) (lost : Bool) (stage : Stage) (o : Step) (L : Type 0)
+      (was : lost ≡ true → L) (only : L → broken ≡ true)
+      (is : Late efifo site (taskOn other lost transfer id stage) fifo stage → L)
+      (none : Late efifo site (taskOn other lost transfer id stage) fifo stage → Waits stage → ⊥) where
     -- its mark stops it
     not-on : (sector : Sector) → OnStage broken other t (Draining sector 0) → sector .broken ≡ false
         → sector .other ≡ false → ⊥
@@ -228,7 +237,7 @@ module _ (g : Geometry) (img : List ℕ) (head drive side t : ℕ) (kind broken 
         go (inr z) = true≢false (sym z ∙ sym y ∙ own)
 
     pub follow-rule : OnStage broken other t stage
-        → Rule head img efifo fifothr site (taskOn other transfer id stage) fifo stage o
+        → Rule head img efifo fifothr site (taskOn other lost transfer id stage) fifo stage o
         → Follow broken other t site transfer id L o
     follow-rule w (notFound look verdict p m l n x y f e) =
         let u : look .slot ≤ t = rw p at w in
@@ -237,10 +246,10 @@ module _ (g : Geometry) (img : List ℕ) (head drive side t : ℕ) (kind broken 
         let u : look .slot ≤ t = rw p at w in
         absurd (data≢none _ _ (sym (mark-here (look .slot) u m) ∙ d))
     follow-rule w (noSide slot verdict p ns f e) = absurd (rw p at w)
-    follow-rule w (late verdict f l e) = ends verdict (inr (f .st1-is, l)) e
+    follow-rule w (late verdict f l k e) = absurd (none l k)
     follow-rule w (misses look on p m l s q e) =
         let u : look .slot ≤ t = rw p at w in
-        goes (Searching on) fifo (omega (arith, before (look .slot) u m)) (rw p at e)
+        goes lost (Searching on) fifo was (omega (arith, before (look .slot) u m)) (rw p at e)
     follow-rule w (passes look on p m l z s q e) =
         let u : look .slot ≤ t = rw p at w in
         absurd (omega (arith, before (look .slot) u m, b .has .on-track))
@@ -249,7 +258,7 @@ module _ (g : Geometry) (img : List ℕ) (head drive side t : ℕ) (kind broken 
         let u : look .slot ≤ t = rw p at w in
         let (same, whole) = mark-kind _ _ _ _ _ (mark-here (look .slot) u m) d in
         let f′ : other′ ≡ other = rw same at f in
-        goes (Reading (record { slot = look .slot; broken = broken′; other = other }) 0) fifo (whole, refl)
+        goes lost (Reading (record { slot = look .slot; broken = broken′; other = other }) 0) fifo was (whole, refl)
         (rw (p, f′) at e)
     follow-rule w (skips look deleted broken′ p m k d f z n) =
         let u : look .slot ≤ t = rw p at w in
@@ -259,18 +268,28 @@ module _ (g : Geometry) (img : List ℕ) (head drive side t : ℕ) (kind broken 
     follow-rule w (begins slot wait p l e) = absurd (rw p at w)
     follow-rule w (puts slot done p l k e) = absurd (rw p at w)
     follow-rule w (pads slot done p l k z e) = absurd (rw p at w)
-    follow-rule w (finishes slot done p l n) = absurd (rw p at w)
+    follow-rule w (dries slot done p l k z e) = absurd (rw p at w)
+    follow-rule w (ends-short slot done verdict p l k z f e) = absurd (rw p at w)
+    follow-rule w (finishes slot done p l k n) = absurd (rw p at w)
     follow-rule w (moves sector done fifo′ p l x e) =
-        goes (Reading sector (done + 1)) fifo′ (rw p at w) (rw p at e)
+        goes lost (Reading sector (done + 1)) fifo′ was (rw p at w) (rw p at e)
     follow-rule w (moves-last sector done fifo′ p l x e) =
-        goes (Draining sector 0) fifo′ (rw p at w) (rw p at e)
-    follow-rule w (drains sector looks p l e) = goes (Draining sector (looks + 1)) fifo (rw p at w) (rw p at e)
+        goes lost (Draining sector 0) fifo′ was (rw p at w) (rw p at e)
+    follow-rule w (overruns sector done p l u v e) =
+        goes true (Reading sector (done + 1)) shut (λ _. is (rw p (u, v))) (rw p at w) (rw p at e)
+    follow-rule w (overruns-last sector done p l u v e) =
+        goes true (Draining sector 0) shut (λ _. is (rw p (u, v))) (rw p at w) (rw p at e)
+    follow-rule w (drains sector looks p l e) =
+        goes lost (Draining sector (looks + 1)) fifo was (rw p at w) (rw p at e)
     follow-rule w (data-error sector looks verdict p k y f e) =
         let u : OnStage broken other t (Draining sector looks) = rw p at w in
         let is : broken ≡ true = sym (u .0) ∙ k in
-        ends verdict (inl (rw is (f .st0, f .st1-is, rw p at y, f .id))) e
-    follow-rule w (other-kind sector looks verdict p k z ok os v zc e) =
+        ends lost verdict was (rw is (f .st0, f .st1-is, rw p at y, f .id)) e
+    follow-rule w (ends-late sector looks verdict p k y f e) =
+        let u : OnStage broken other t (Draining sector looks) = rw p at w in
+        absurd (true≢false (sym (only (was y)) ∙ sym (u .0) ∙ k))
+    follow-rule w (other-kind sector looks verdict p k y z ok os v zc e) =
         let u : OnStage broken other t (Draining sector looks) = rw p at w in
         let is : broken ≡ false = sym (u .0) ∙ k in
-        ends verdict (inl (rw is (v .st0, z, rw p at os, v .id))) e
-    follow-rule w (drained sector looks p k ok zc n) = absurd (not-on sector (rw p at w) k ok)
+        ends lost verdict was (rw (is, y) (v .st0, z, rw p at os, v .id)) e
+    follow-rule w (drained sector looks p k y ok zc n) = absurd (not-on sector (rw p at w) k ok)

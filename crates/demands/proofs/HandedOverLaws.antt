@@ -27,7 +27,7 @@ use Rattle.image.specs.Lent.{pickOf, storedAs}
 use Rattle.image.specs.Mark.{byteOf, markOf}
 use Rattle.image.specs.Slot.{idAt}
 use Rattle.chip.specs.declared.fifo.Fifo.{Fifo}
-use Rattle.chip.specs.Fifo.{emptied, takenOf, frontOf}
+use Rattle.chip.specs.Fifo.{emptied, shut, takenOf, frontOf}
 use Rattle.chip.specs.Fifo.{FitsFifo}
 use Rattle.chip.specs.Next.{advancedOf}
 use Rattle.sectors.specs.declared.order.Job.the-variants.{Move}
@@ -47,7 +47,7 @@ use Rattle.sectors.specs.declared.work.Verdict.{Verdict}
 use Rattle.sectors.specs.declared.work.Work.{Work}
 use Rattle.sectors.specs.declared.work.Work.the-variants.{Identifying, Moving, Formatting}
 use Rattle.sectors.specs.Follow.{freshAt, onSide}
-use Rattle.sectors.specs.Result.{st0Of, otherBit, endOf, moveEnd, moveFails}
+use Rattle.sectors.specs.Result.{st0Of, otherBit, lateBit, endOf, moveEnd, moveFails, tardy}
 use Rattle.sectors.specs.Search.{withOther}
 use Rattle.sectors.specs.Track.{hasTrack, staysOf, markPlace, dataPlace, nextSlot}
 use Rattle.engine.specs.First.{changes, gateOf, givenId, movingOf, startJob, enteredOf, beginOf}
@@ -73,11 +73,17 @@ use Rattle.demands.proofs.CallLaws.{tick-starts, tick-works, call-rule,
 use Rattle.demands.proofs.CallRules.{NoTick, MayTake, FifoRule, same, took, gave, TakenRule, none-taken, one-taken, Keeps, CallRule, cut-off, goes-on}
 use Rattle.demands.proofs.SplitLaws.{taking-or-not, may-calm, image-same, none-handed}
 use Rattle.demands.specs.Quiet.{Quiet}
-use Rattle.demands.proofs.CutLaws.{marked-counts, next-slot-below, matches-id, turned-has, not-80}
-use Rattle.demands.proofs.HandedStream.{AsksSome, some-emptied, some-taken, some-filled, size-some, Flow, flows, ended, flow-fresh, flow-got, flow-next, flow-most, flow-fill, flow-take, flow-skip}
+use Rattle.demands.proofs.CutLaws.{marked-counts, next-slot-below, matches-id, turned-has}
+use Rattle.demands.proofs.HandedStream.{AsksSome, some-emptied, some-shut, some-taken, some-filled, size-some}
+use Rattle.demands.proofs.HandedStream.{Flow, flows, ended, flow-fresh, flow-got, flow-next, flow-most, flow-lost}
+use Rattle.demands.proofs.HandedStream.{flow-fill, flow-take, flow-skip}
 use Rattle.demands.proofs.PowerCutLaws.{idle≢answering}
 use Rattle.demands.proofs.QuietLaws.{quiet-real, quiet-after}
-use Rattle.demands.proofs.TickRules.{marked, hits, Fails, Filled, NextEnds, NextRule, stops, turns, steps, Rule, notFound, noData, noSide, late, misses, passes, toWrite, toRead, skips, turned-over, waits, begins, puts, pads, finishes, moves, moves-last, drains, data-error, other-kind, drained, transfer-rule}
+use Rattle.demands.proofs.TickRules.{marked, hits, Fails, Filled, NextEnds, NextRule, stops, turns, steps}
+use Rattle.demands.proofs.TickRules.{Rule, notFound, noData, noSide, late, misses, passes, toWrite, toRead, skips}
+use Rattle.demands.proofs.TickRules.{turned-over, waits, begins, puts, pads, dries, ends-short, finishes, moves}
+use Rattle.demands.proofs.TickRules.{moves-last, overruns, overruns-last, drains, data-error, ends-late}
+use Rattle.demands.proofs.TickRules.{other-kind, drained, transfer-rule}
 
 none≢data : (d b : Bool) → NoId ≡ Data d b → ⊥
 none≢data d b e = let z : _≡_ {A = ℕ} 0 1 = cc in omega arith
@@ -131,6 +137,15 @@ clear-bit : (a : Bool) → otherBit a ≡ 0x00 → a ≡ false
 clear-bit true e = absurd (omega arith)
 clear-bit false e = refl
 
+-- no such end beside a late byte's 10 is 80
+not-eot : (late : Bool) (st1 : ℕ) → st1 < 0x70 → lateBit late + st1 ≡ 0x80 → ⊥
+not-eot true st1 l e = omega arith
+not-eot false st1 l e = omega arith
+
+below-70 : (x : ℕ) → (x ≡ 0x01) ⊎ (x ≡ 0x04) → x < 0x70
+below-70 x (inl e) = omega arith
+below-70 x (inr e) = omega arith
+
 failed-above : (drive side : ℕ) → st0Of false drive side < 0x40 → ⊥
 failed-above drive side l = omega arith
 
@@ -150,8 +165,8 @@ module _ (g : Geometry) (cylinder drive : ℕ) (transfer : Transfer) (aim : Aim)
   abbrev Good : ℕ → Type 0
   Good m = IsGood g cylinder transfer aim img m
 
-  abbrev Flowing : (ℕ → ℕ) → ℕ → ℕ → Fifo → Taken → Type 0
-  Flowing num n done f t = Flow g cylinder transfer aim img num n done f t
+  abbrev Flowing : Bool → (ℕ → ℕ) → ℕ → ℕ → Fifo → Taken → Type 0
+  Flowing lost num n done f t = Flow g cylinder transfer aim img num lost n done f t
 
   abbrev pub Handing : Taken → Type 0
   Handing t = Hands g cylinder transfer aim img t
@@ -319,7 +334,7 @@ module _ (g : Geometry) (cylinder drive : ℕ) (transfer : Transfer) (aim : Aim)
     -- no aim before the one in hand was the last
     pub reach : InReach transfer aim m
     pub asks : AsksSome f
-    pub flow : Flowing num n (doneIn stage) f t
+    pub flow : Flowing (task .late) num n (doneIn stage) f t
 
   pub busy-hands : {site : Site} {task : Task} {stage : Stage} {f : Fifo} {t : Taken} → Busy site task stage f t
       → Handing t
@@ -351,14 +366,14 @@ module _ (g : Geometry) (cylinder drive : ℕ) (transfer : Transfer) (aim : Aim)
 
   -- 01 Result: an end that is no Next
   pub fails-over : (site : Site) (task : Task) (verdict : Verdict) (st1 : ℕ) (t : Taken) → Handing t
-      → Fails st1 site task verdict → (st1 ≡ 0x80 → ⊥) → Over verdict t
-  fails-over site task verdict st1 t h v other =
+      → Fails st1 site task verdict → st1 < 0x70 → Over verdict t
+  fails-over site task verdict st1 t h v low =
       record {
         hands = h;
         says = record {
           normal = λ l z. absurd (failed-above (site .drive) (site .side) (rw (v .st0) at l));
           other = λ k l z. absurd (failed-above (site .drive) (site .side) (rw (v .st0) at l));
-          past-eot = λ e. absurd (other (sym (v .st1-is) ∙ e));
+          past-eot = λ e. absurd (not-eot (task .late) st1 low (sym (v .st1-is) ∙ e));
         };
       }
 
@@ -366,6 +381,9 @@ module _ (g : Geometry) (cylinder drive : ℕ) (transfer : Transfer) (aim : Aim)
       {site : Site} {task : Task} {stage : Stage} {f : Fifo} {t : Taken} (b : Busy site task stage f t) where
     abbrev now : Aim
     now = aimNo transfer aim (b .m)
+
+    most : doneIn stage ≤ P
+    most = done-most _ _ stage (b .link)
 
     no-write : {A : Type 0} → task .transfer .pass ≡ Write → A
     no-write e =
@@ -398,7 +416,7 @@ module _ (g : Geometry) (cylinder drive : ℕ) (transfer : Transfer) (aim : Aim)
     to : (task′ : Task) (stage′ : Stage) (f′ : Fifo) → task′ .transfer ≡ task .transfer → task′ .id ≡ task .id
         → (task′ .other ≡ false → task .other ≡ false)
         → (transfer .sk ≡ false → task′ .other ≡ true → OtherInHand stage′) → Link now (task′ .other) stage′
-        → AsksSome f′ → Flowing (b .num) (b .n) (doneIn stage′) f′ t
+        → AsksSome f′ → Flowing (task′ .late) (b .num) (b .n) (doneIn stage′) f′ t
         → Busy site task′ stage′ f′ t
     to task′ stage′ f′ e i o sh l a s =
         record {
@@ -438,9 +456,10 @@ module _ (g : Geometry) (cylinder drive : ℕ) (transfer : Transfer) (aim : Aim)
     address-of id k y e = rw y (e ∙ rw (b .id, b .told-to, b .side))
 
     -- 01 Next, of a sector read
-    next-over : (verdict : Verdict) → f .count ≡ 0 → Flowing (b .num) (b .n) P f t → Good (b .m)
-        → (transfer .sk ≡ false → task .other ≡ true → ⊥) → NextEnds (f .tc) site task verdict → Over verdict t
-    next-over verdict z fl last sh v =
+    next-over : (verdict : Verdict) → f .count ≡ 0 → task .late ≡ false → Flowing (task .late) (b .num) (b .n) P f t
+        → Good (b .m) → (transfer .sk ≡ false → task .other ≡ true → ⊥) → NextEnds (f .tc) site task verdict
+        → Over verdict t
+    next-over verdict z nl fl last sh v =
         record {
           hands = record {
             num = b .num;
@@ -458,7 +477,7 @@ module _ (g : Geometry) (cylinder drive : ℕ) (transfer : Transfer) (aim : Aim)
         there : b .num (suc (b .n)) ≡ suc (b .m)
         there = trail-now (b .num) (suc (b .n)) (suc (b .m)) more
 
-        go : Flowing (b .num) (b .n) P f t → Says (b .num) (suc (b .n)) verdict t
+        go : Flowing (task .late) (b .num) (b .n) P f t → Says (b .num) (suc (b .n)) verdict t
         go (flows a c lo sum all) =
             let v′ : NextEnds false site task verdict = rw a at v in
             record {
@@ -476,24 +495,25 @@ module _ (g : Geometry) (cylinder drive : ℕ) (transfer : Transfer) (aim : Aim)
             let v′ : NextEnds true site task verdict = rw a at v in
             record {
               normal = λ l y. record {
-                told = c;
+                told = c nl;
                 some = omega arith;
-                above = let q : suc (b .n) - 1 ≡ b .n = omega arith in rw q lo;
+                above = let q : suc (b .n) - 1 ≡ b .n = omega arith in rw q (lo nl);
                 below = omega (arith, hi);
                 good = more .good;
                 none = b .clear (clear-bit (task .other) (sym (v′ .st2) ∙ y));
                 address = address-of (verdict .id) _ there (v′ .id);
               };
               other = λ k l y. absurd (sh k (set-bit (task .other) (sym (v′ .st2) ∙ y)));
-              past-eot = λ e. absurd (omega (arith, v′ .st1));
+              past-eot = λ e. absurd (not-eot (task .late) 0x00 (omega arith) (sym (v′ .st1) ∙ e));
             }
 
     -- 01 Read: the other kind, not skipped: the sector's own address
     other-over : (sector : Sector) (verdict : Verdict) → Sees now (task .other) sector → sector .broken ≡ false
         → sector .other ≡ true → verdict .st1 ≡ 0x00 → verdict .st2 ≡ otherBit (task .other) + 0x00
-        → verdict .id ≡ task .id → f .count ≡ 0 → Flowing (b .num) (b .n) P f t → Over verdict t
+        → verdict .id ≡ task .id → f .count ≡ 0 → task .late ≡ false → Flowing (task .late) (b .num) (b .n) P f t
+        → Over verdict t
     unfolding busy-hands
-    other-over sector verdict s whole ok z os i none fl =
+    other-over sector verdict s whole ok z os i none nl fl =
         let st2 : verdict .st2 ≡ 0x40 = os ∙ ap (λ (x : Bool). otherBit x + 0x00) (s .other-is ok) in
         record {
           hands = busy-hands b;
@@ -514,13 +534,13 @@ module _ (g : Geometry) (cylinder drive : ℕ) (transfer : Transfer) (aim : Aim)
         there : b .num (b .n) ≡ b .m
         there = trail-now (b .num) (b .n) (b .m) (b .trail)
 
-        more : Flowing (b .num) (b .n) P f t → b .n * P < length (t .got)
+        more : Flowing (task .late) (b .num) (b .n) P f t → b .n * P < length (t .got)
         more (flows a c lo sum all) = omega (arith, sum, none, size-some (g .n))
-        more (ended a c off quiet all lo hi) = lo
+        more (ended a c off quiet all lo hi) = lo nl
 
-        whole-of : Flowing (b .num) (b .n) P f t → t .told ≡ false → length (t .got) ≡ (b .n + 1) * P
+        whole-of : Flowing (task .late) (b .num) (b .n) P f t → t .told ≡ false → length (t .got) ≡ (b .n + 1) * P
         whole-of (flows a c lo sum all) u = omega (arith, sum, none)
-        whole-of (ended a c off quiet all lo hi) u = absurd (true≢false (sym c ∙ u))
+        whole-of (ended a c off quiet all lo hi) u = absurd (true≢false (sym (c nl) ∙ u))
 
         kind-is : s .kind ≡ not (transfer .deleted)
         kind-is = differs-so _ _ (sym (s .kind-is) ∙ ok)
@@ -537,12 +557,13 @@ module _ (g : Geometry) (cylinder drive : ℕ) (transfer : Transfer) (aim : Aim)
     -- on to the next aim
     on-turn : (slot : ℕ) (num : ℕ → ℕ) (n : ℕ) (other : Bool) → (other ≡ false → (j : ℕ) → num j ≡ j)
         → (transfer .sk ≡ false → other ≡ true → ⊥) → Has g cylinder (now .side) slot
-        → Trail num n (suc (b .m)) → Flowing num n 0 f t
+        → Trail num n (suc (b .m)) → Flowing (task .late) num n 0 f t
         → task .id .r ≡ task .transfer .eot → task .transfer .mt ≡ true → site .side ≡ 0
         → Busy (onSide 1 site) (record {
           transfer = task .transfer;
           id = advancedOf (task .id) (task .transfer .eot) (task .transfer .mt) (site .side) 1;
           other = other;
+          late = task .late;
         }) (Turning (nextSlot slot (site .disk .slots))) f t
     on-turn slot num n other clear sh has trail fl r mt first =
         let r′ : now .id .r ≡ transfer .eot = rw (b .id, b .told-to) at r in
@@ -566,12 +587,13 @@ module _ (g : Geometry) (cylinder drive : ℕ) (transfer : Transfer) (aim : Aim)
 
     on-step : (slot : ℕ) (num : ℕ → ℕ) (n : ℕ) (other : Bool) → (other ≡ false → (j : ℕ) → num j ≡ j)
         → (transfer .sk ≡ false → other ≡ true → ⊥) → Has g cylinder (now .side) slot
-        → Trail num n (suc (b .m)) → Flowing num n 0 f t
+        → Trail num n (suc (b .m)) → Flowing (task .late) num n 0 f t
         → (task .id .r ≡ task .transfer .eot → ⊥)
         → Busy site (record {
           transfer = task .transfer;
           id = advancedOf (task .id) (task .transfer .eot) (task .transfer .mt) (site .side) 1;
           other = other;
+          late = task .late;
         }) (Searching (freshAt (nextSlot slot (site .disk .slots)))) f t
     on-step slot num n other clear sh has trail fl r =
         let r′ : now .id .r ≡ transfer .eot → ⊥ = rw (b .id, b .told-to) at r in
@@ -599,18 +621,19 @@ module _ (g : Geometry) (cylinder drive : ℕ) (transfer : Transfer) (aim : Aim)
         }
 
     next-step : (sector : Sector) (o : Step) → Sees now (task .other) sector → sector .broken ≡ false
-        → sector .other ≡ false → (transfer .sk ≡ false → task .other ≡ true → ⊥) → f .count ≡ 0
-        → Flowing (b .num) (b .n) P f t → NextRule (f .tc) (sector .slot) site task f Nothing o → OnStep o t
-    next-step sector o s whole own sh z fl (stops verdict v e) =
-        rw e (refl, next-over verdict z fl (good-now sector s whole own) sh v)
-    next-step sector o s whole own sh z fl (turns u r x d e) =
+        → sector .other ≡ false → (transfer .sk ≡ false → task .other ≡ true → ⊥) → f .count ≡ 0 → task .late ≡ false
+        → Flowing (task .late) (b .num) (b .n) P f t → NextRule (f .tc) (sector .slot) site task f Nothing o
+        → OnStep o t
+    next-step sector o s whole own sh z nl fl (stops verdict v e) =
+        rw e (refl, next-over verdict z nl fl (good-now sector s whole own) sh v)
+    next-step sector o s whole own sh z nl fl (turns u r x d e) =
         rw e (
           refl,
           on-turn (sector .slot) (b .num) (suc (b .n)) (task .other) (b .clear) sh (s .has)
               (trail-next (b .num) (b .n) (b .m) (b .trail) (good-now sector s whole own))
               (flow-next g cylinder transfer aim img (b .num) fl refl z u) r x d,
         )
-    next-step sector o s whole own sh z fl (steps u r e) =
+    next-step sector o s whole own sh z nl fl (steps u r e) =
         rw e (
           refl,
           on-step (sector .slot) (b .num) (suc (b .n)) (task .other) (b .clear) sh (s .has)
@@ -620,12 +643,13 @@ module _ (g : Geometry) (cylinder drive : ℕ) (transfer : Transfer) (aim : Aim)
 
     -- 01 Next, of a sector skipped
     skip-over : (verdict : Verdict) → transfer .sk ≡ true → IsOther g cylinder transfer aim img (b .m)
-        → FitsFifo efifo f → Flowing (b .num) (b .n) 0 f t → NextEnds (f .tc) site (withOther true task) verdict → Over verdict t
+        → FitsFifo efifo f → Flowing (task .late) (b .num) (b .n) 0 f t
+        → NextEnds (f .tc) site (withOther true task) verdict → Over verdict t
     skip-over verdict k other fit (flows a c lo sum all) v =
         let num′ : ℕ → ℕ = bumped (b .n) (b .num) in
         let trail′ : Trail num′ (b .n) (suc (b .m)) = trail-skip (b .num) (b .n) (b .m) (b .trail) k other in
-        let fl′ : Flowing num′ (b .n) 0 f t =
-        flow-skip g cylinder transfer aim img (b .num) num′ efifo (b .n) f t fit (bump-before (b .n) (b .num)) a
+        let fl′ : Flowing (task .late) num′ (b .n) 0 f t =
+        flow-skip g cylinder transfer aim img (b .num) num′ efifo _ (b .n) f t fit (bump-before (b .n) (b .num)) a
         (flows a c lo sum all) in
         let there : num′ (b .n) ≡ suc (b .m) = trail-now num′ (b .n) (suc (b .m)) trail′ in
         let v′ : NextEnds false site (withOther true task) verdict = rw a at v in
@@ -657,12 +681,12 @@ module _ (g : Geometry) (cylinder drive : ℕ) (transfer : Transfer) (aim : Aim)
           says = record {
             normal = λ l y. absurd (omega arith);
             other = λ p l y. absurd (true≢false (sym k ∙ p));
-            past-eot = λ e. absurd (omega (arith, v′ .st1));
+            past-eot = λ e. absurd (not-eot (task .late) 0x00 (omega arith) (sym (v′ .st1) ∙ e));
           };
         }
 
     skip-step : (slot : ℕ) (o : Step) → transfer .sk ≡ true → IsOther g cylinder transfer aim img (b .m)
-        → Has g cylinder (now .side) slot → FitsFifo efifo f → Flowing (b .num) (b .n) 0 f t
+        → Has g cylinder (now .side) slot → FitsFifo efifo f → Flowing (task .late) (b .num) (b .n) 0 f t
         → NextRule (f .tc) slot site (withOther true task) f Nothing o → OnStep o t
     skip-step slot o k other has fit fl (stops verdict v e) = rw e (refl, skip-over verdict k other fit fl v)
     skip-step slot o k other has fit fl (turns u r x d e) =
@@ -670,7 +694,7 @@ module _ (g : Geometry) (cylinder drive : ℕ) (transfer : Transfer) (aim : Aim)
           refl,
           on-turn slot (bumped (b .n) (b .num)) (b .n) (task .other || true) (λ y. absurd (true≢false (sym (or-true (task .other)) ∙ y))) (λ y e. true≢false (sym k ∙ y)) has
               (trail-skip (b .num) (b .n) (b .m) (b .trail) k other)
-              (flow-skip g cylinder transfer aim img (b .num) (bumped (b .n) (b .num)) efifo (b .n) f t fit
+              (flow-skip g cylinder transfer aim img (b .num) (bumped (b .n) (b .num)) efifo _ (b .n) f t fit
               (bump-before (b .n) (b .num)) u fl) r x d,
         )
     skip-step slot o k other has fit fl (steps u r e) =
@@ -678,15 +702,15 @@ module _ (g : Geometry) (cylinder drive : ℕ) (transfer : Transfer) (aim : Aim)
           refl,
           on-step slot (bumped (b .n) (b .num)) (b .n) (task .other || true) (λ y. absurd (true≢false (sym (or-true (task .other)) ∙ y))) (λ y e. true≢false (sym k ∙ y)) has
               (trail-skip (b .num) (b .n) (b .m) (b .trail) k other)
-              (flow-skip g cylinder transfer aim img (b .num) (bumped (b .n) (b .num)) efifo (b .n) f t fit
+              (flow-skip g cylinder transfer aim img (b .num) (bumped (b .n) (b .num)) efifo _ (b .n) f t fit
               (bump-before (b .n) (b .num)) u fl) r,
         )
 
     -- 01 Read: one byte further
     fill : (sector : Sector) (done : ℕ) (last : Bool) (f′ : Fifo) → FitsFifo efifo f
-        → Sees now (task .other) sector → done < P → Flowing (b .num) (b .n) done f t
+        → Sees now (task .other) sector → done < P → Flowing (task .late) (b .num) (b .n) done f t
         → Filled cylinder img efifo fifothr site f sector done last f′
-        → AsksSome f′ × Flowing (b .num) (b .n) (done + 1) f′ t
+        → AsksSome f′ × Flowing (task .late) (b .num) (b .n) (done + 1) f′ t
     unfolding dataPlace
     fill sector done last f′ fit s l fl x =
         let p : getD img (markPlace site cylinder (sector .slot) + 5 + done) 0
@@ -698,7 +722,7 @@ module _ (g : Geometry) (cylinder drive : ℕ) (transfer : Transfer) (aim : Aim)
         (sym (trail-now (b .num) (b .n) (b .m) (b .trail))) (s .stands) in
         rw (x .after) (
           some-filled efifo fifothr last _ f (b .asks),
-          flow-fill g cylinder transfer aim img (b .num) efifo (b .n) done f t fit fifothr last _ _ fl l st
+          flow-fill g cylinder transfer aim img (b .num) efifo _ (b .n) done f t fit fifothr last _ _ fl l st
               (subst (InReach transfer aim) (sym (trail-now (b .num) (b .n) (b .m) (b .trail))) (b .reach))
               (λ k. record {
                 broken = sector .broken;
@@ -711,13 +735,13 @@ module _ (g : Geometry) (cylinder drive : ℕ) (transfer : Transfer) (aim : Aim)
         → Rule cylinder img efifo fifothr site task f stage o → OnStep o t
     unfolding stageOf hasTrack
     busy-rule o fit is (notFound look verdict p h l m x y v e) =
-        rw e (refl, fails-over site task verdict x t (busy-hands b) v (not-80 x y))
+        rw e (refl, fails-over site task verdict x t (busy-hands b) v (below-70 x y))
     busy-rule o fit is (noData look verdict p h r m v e) =
-        rw e (refl, fails-over site task verdict 0x01 t (busy-hands b) v (λ z. omega arith))
+        rw e (refl, fails-over site task verdict 0x01 t (busy-hands b) v (omega arith))
     busy-rule o fit is (noSide slot verdict p ns v e) =
-        rw e (refl, fails-over site task verdict 0x01 t (busy-hands b) v (λ z. omega arith))
-    busy-rule o fit is (late verdict v l e) =
-        rw e (refl, fails-over site task verdict 0x10 t (busy-hands b) v (λ z. omega arith))
+        rw e (refl, fails-over site task verdict 0x01 t (busy-hands b) v (omega arith))
+    busy-rule o fit is (late verdict v l w e) =
+        rw e (refl, fails-over site (tardy task) verdict 0x00 t (busy-hands b) v (omega arith))
     busy-rule o fit is (misses look on p h l a q e) =
         let k : Has g cylinder (now .side) (look .slot) = rw p at (b .link) in
         let l′ : look .slot + 1 < g .slots = rw (b .disk) at l in
@@ -785,7 +809,9 @@ module _ (g : Geometry) (cylinder drive : ℕ) (transfer : Transfer) (aim : Aim)
     busy-rule o fit is (begins slot wait p l e) = absurd (rw p at (b .link))
     busy-rule o fit is (puts slot done p l c e) = absurd (rw p at (b .link))
     busy-rule o fit is (pads slot done p l c u e) = absurd (rw p at (b .link))
-    busy-rule o fit is (finishes slot done p l n) = absurd (rw p at (b .link))
+    busy-rule o fit is (dries slot done p l c u e) = absurd (rw p at (b .link))
+    busy-rule o fit is (ends-short slot done verdict p l u y v e) = absurd (rw p at (b .link))
+    busy-rule o fit is (finishes slot done p l u n) = absurd (rw p at (b .link))
     busy-rule o fit is (moves sector done f′ p l x e) =
         let (s, d) = rw p at (b .link) in
         let l′ : done + 1 < P = rw (b .disk) at l in
@@ -796,15 +822,36 @@ module _ (g : Geometry) (cylinder drive : ℕ) (transfer : Transfer) (aim : Aim)
         let l′ : P ≤ done + 1 = rw (b .disk) at l in
         let z : done + 1 ≡ P = omega arith in
         let (a, fl) = fill sector done true f′ fit s d (rw p at (b .flow)) x in
-        rw e (refl, to task (Draining sector 0) f′ refl refl (λ y. y) (rw p at (b .shown)) s a (subst (λ (k : ℕ). Flowing (b .num) (b .n) k f′ t) z fl))
+        rw e (
+          refl,
+          to task (Draining sector 0) f′ refl refl (λ y. y) (rw p at (b .shown)) s a
+              (subst (λ (k : ℕ). Flowing (task .late) (b .num) (b .n) k f′ t) z fl),
+        )
+    busy-rule o fit is (overruns sector done p l u v e) =
+        let (s, d) = rw p at (b .link) in
+        let l′ : done + 1 < P = rw (b .disk) at l in
+        rw e (
+          refl,
+          to (tardy task) (Reading sector (done + 1)) shut refl refl (λ y. y) (rw p at (b .shown)) (s, l′)
+              some-shut (flow-lost g cylinder transfer aim img (b .num) (done + 1) (b .flow) most),
+        )
+    busy-rule o fit is (overruns-last sector done p l u v e) =
+        let (s, d) = rw p at (b .link) in
+        rw e (
+          refl,
+          to (tardy task) (Draining sector 0) shut refl refl (λ y. y) (rw p at (b .shown)) s some-shut
+              (flow-lost g cylinder transfer aim img (b .num) P (b .flow) most),
+        )
     busy-rule o fit is (drains sector looks p l e) =
         rw e (refl, to task (Draining sector (looks + 1)) f refl refl (λ y. y) (rw p at (b .shown)) (rw p at (b .link)) (b .asks) (rw p at (b .flow)))
     busy-rule o fit is (data-error sector looks verdict p q y v e) =
-        rw e (refl, fails-over site task verdict 0x20 t (busy-hands b) v (λ z. omega arith))
-    busy-rule o fit is (other-kind sector looks verdict p q z ok os v zc e) =
-        rw e (refl, other-over sector verdict (rw p at (b .link)) q ok z os (v .id) zc (rw p at (b .flow)))
-    busy-rule o fit is (drained sector looks p q ok zc n) =
-        next-step sector o (rw p at (b .link)) q ok (λ k y. true≢false (sym ((rw p at (b .shown)) k y) ∙ ok)) zc
+        rw e (refl, fails-over site task verdict 0x20 t (busy-hands b) v (omega arith))
+    busy-rule o fit is (ends-late sector looks verdict p q nl v e) =
+        rw e (refl, fails-over site (tardy task) verdict 0x00 t (busy-hands b) v (omega arith))
+    busy-rule o fit is (other-kind sector looks verdict p q nl z ok os v zc e) =
+        rw e (refl, other-over sector verdict (rw p at (b .link)) q ok z os (v .id) zc nl (rw p at (b .flow)))
+    busy-rule o fit is (drained sector looks p q nl ok zc n) =
+        next-step sector o (rw p at (b .link)) q ok (λ k y. true≢false (sym ((rw p at (b .shown)) k y) ∙ ok)) zc nl
         (rw p at (b .flow)) n
 
 module _ (g : Geometry) (cylinder : ℕ) (order : Order) (transfer : Transfer) (id : Id) (img : List ℕ)
@@ -914,7 +961,7 @@ module _ (g : Geometry) (cylinder : ℕ) (order : Order) (transfer : Transfer) (
   lost site task =
       record {
         st0 = st0Of false (site .drive) (site .side);
-        st1 = 0x01;
+        st1 = lateBit (task .late) + 0x01;
         st2 = otherBit (task .other) + 0x00;
         id = task .id;
       }
@@ -933,7 +980,7 @@ module _ (g : Geometry) (cylinder : ℕ) (order : Order) (transfer : Transfer) (
         refl,
         fails-over g cylinder drive transfer aim img site task (lost site task) 0x01 t
             (busy-hands g cylinder drive transfer aim img b) (record { st0 = refl; st1-is = refl; id = refl })
-            (λ e. omega arith),
+            (omega arith),
       ))
 
   abbrev Told : Controller → (t : Taken) → Hands-so t → Type 0
@@ -1021,7 +1068,7 @@ module _ (g : Geometry) (cylinder : ℕ) (order : Order) (transfer : Transfer) (
         link = b .link;
         reach = b .reach;
         asks = some-taken tc f;
-        flow = flow-take g cylinder transfer aim img (b .num) efifo (b .n) _ f t fit tc (b .flow)
+        flow = flow-take g cylinder transfer aim img (b .num) efifo _ (b .n) _ f t fit tc (b .flow)
             (done-most g cylinder drive transfer aim img _ _ stage (b .link)) a (b .asks);
       }
 

@@ -17,7 +17,7 @@ use Rattle.image.proofs.TestLaws.{by-test, both, le-or-lt}
 use Rattle.image.specs.declared.layout.Geometry.{Geometry}
 use Rattle.image.specs.Layout.{sizeOf}
 use Rattle.chip.specs.declared.fifo.Fifo.{Fifo}
-use Rattle.chip.specs.Fifo.{capacityOf, fullOf, held, frontOf, emptied, takenOf, filledOf, FitsFifo}
+use Rattle.chip.specs.Fifo.{capacityOf, fullOf, held, frontOf, emptied, shut, takenOf, filledOf, FitsFifo}
 use Rattle.chip.proofs.FifoLaws.{taken-held, filled-held, filled-tc-same}
 use Rattle.sectors.specs.declared.order.Transfer.{Transfer}
 use Rattle.demands.specs.HandedOver.{Taken, untaken, tookOne, OfKind, Comes, AllCome}
@@ -29,6 +29,9 @@ AsksSome f = f .asks ≡ true → 0 < f .count
 
 pub some-emptied : AsksSome emptied
 some-emptied a = absurd (false≢true a)
+
+pub some-shut : AsksSome shut
+some-shut a = absurd (false≢true a)
 
 pub some-taken : (tc : Bool) (f : Fifo) → AsksSome (takenOf tc f)
 unfolding takenOf
@@ -131,40 +134,48 @@ module _ (g : Geometry) (cylinder : ℕ) (transfer : Transfer) (aim : Aim) (img 
           }
 
   -- n sectors are done, and `done` bytes of the next: before TC what was taken and what is held are these bytes, and
-  -- none is held of a sector before; after TC nothing is held, and the last byte taken was one of sector n
-  pub data Flow (n done : ℕ) (f : Fifo) (t : Taken) : Type 0 where
+  -- none is held of a sector before; after TC nothing is held, and the last byte taken was one of sector n; nothing is
+  -- held after a late byte either (02 2026-02)
+  pub data Flow (late : Bool) (n done : ℕ) (f : Fifo) (t : Taken) : Type 0 where
     flows : f .tc ≡ false → t .told ≡ false → n * P ≤ length (t .got) → length (t .got) + f .count ≡ n * P + done
-        → Come (t .got ++ held f) → Flow n done f t
-    ended : f .tc ≡ true → t .told ≡ true → f .count ≡ 0 → f .asks ≡ false → Come (t .got)
-        → n * P < length (t .got) → length (t .got) ≤ n * P + P → Flow n done f t
+        → Come (t .got ++ held f) → Flow late n done f t
+    ended : f .tc ≡ true → (late ≡ false → t .told ≡ true) → f .count ≡ 0 → f .asks ≡ false → Come (t .got)
+        → (late ≡ false → n * P < length (t .got)) → length (t .got) ≤ n * P + P → Flow late n done f t
 
-  pub flow-fresh : Flow 0 0 emptied untaken
+  pub flow-fresh : Flow false 0 0 emptied untaken
   flow-fresh = flows refl refl (omega arith) (omega arith) come-none
 
-  pub flow-got : {n done : ℕ} {f : Fifo} {t : Taken} → Flow n done f t → Come (t .got)
-  flow-got {n} {done} {f} {t} (flows a b c d e) = come-part (t .got) (held f) e
+  pub flow-got : {late : Bool} {n done : ℕ} {f : Fifo} {t : Taken} → Flow late n done f t → Come (t .got)
+  flow-got {late} {n} {done} {f} {t} (flows a b c d e) = come-part (t .got) (held f) e
   flow-got (ended a b c d e x y) = e
 
-  pub flow-next : {n done : ℕ} {f : Fifo} {t : Taken} → Flow n done f t → done ≡ P → f .count ≡ 0 → f .tc ≡ false
-      → Flow (suc n) 0 f t
+  pub flow-next : {late : Bool} {n done : ℕ} {f : Fifo} {t : Taken} → Flow late n done f t → done ≡ P → f .count ≡ 0
+      → f .tc ≡ false → Flow late (suc n) 0 f t
   flow-next (flows a b c d e) l z u = flows a b (omega (arith, d, l, z)) (omega (arith, d, l, z)) e
   flow-next (ended a b c d e x y) l z u = absurd (true≢false (sym a ∙ u))
 
-  pub flow-most : {n done : ℕ} {f : Fifo} {t : Taken} → Flow n done f t → done ≤ P → length (t .got) ≤ n * P + P
+  pub flow-most : {late : Bool} {n done : ℕ} {f : Fifo} {t : Taken} → Flow late n done f t → done ≤ P
+      → length (t .got) ≤ n * P + P
   flow-most (flows a b c d e) l = omega (arith, d)
   flow-most (ended a b c d e x y) l = y
 
-  module _ (efifo : Bool) (n done : ℕ) (f : Fifo) (t : Taken) (fits : FitsFifo efifo f) where
+  -- a byte is lost, and all that the FIFO held
+  pub flow-lost : {late : Bool} {n done : ℕ} {f : Fifo} {t : Taken} (done′ : ℕ) → Flow late n done f t → done ≤ P
+      → Flow true n done′ shut t
+  flow-lost done′ fl l =
+      ended refl (λ e. absurd (true≢false e)) refl refl (flow-got fl) (λ e. absurd (true≢false e)) (flow-most fl l)
+
+  module _ (efifo late : Bool) (n done : ℕ) (f : Fifo) (t : Taken) (fits : FitsFifo efifo f) where
     within : f .count ≤ length (f .bytes)
     within = omega (arith, fits .sixteen, fits .within, capacity-most efifo)
 
     held-size : length (held f) ≡ f .count
     held-size = length-take-le (f .count) (f .bytes) within
 
-    pub flow-fill : (fifothr : ℕ) (last : Bool) (byte at : ℕ) → Flow n done f t → done < P
+    pub flow-fill : (fifothr : ℕ) (last : Bool) (byte at : ℕ) → Flow late n done f t → done < P
         → Stands g img cylinder (aimNo transfer aim (num n)) at → InReach transfer aim (num n)
         → (transfer .sk ≡ true → OfKind (transfer .deleted) (getD img at 0)) → byte ≡ getD img (at + 5 + done) 0
-        → (f .tc ≡ false → fullOf efifo f ≡ false) → Flow n (done + 1) (filledOf efifo fifothr last byte f) t
+        → (f .tc ≡ false → fullOf efifo f ≡ false) → Flow late n (done + 1) (filledOf efifo fifothr last byte f) t
     flow-fill fifothr last byte at (flows a b c d e) l stands reach own is room =
         let r = room a in
         let src : List ℕ = t .got ++ held f in
@@ -177,8 +188,8 @@ module _ (g : Geometry) (cylinder : ℕ) (transfer : Transfer) (aim : Aim) (img 
     flow-fill fifothr last byte at (ended a b c d e x y) l stands reach own is room =
         rw (filled-tc-same efifo fifothr last byte f a) (ended a b c d e x y)
 
-    pub flow-take : (tc : Bool) → Flow n done f t → done ≤ P → f .asks ≡ true → AsksSome f
-        → Flow n done (takenOf tc f) (tookOne (frontOf f) tc t)
+    pub flow-take : (tc : Bool) → Flow late n done f t → done ≤ P → f .asks ≡ true → AsksSome f
+        → Flow late n done (takenOf tc f) (tookOne (frontOf f) tc t)
     flow-take tc (ended a b c d e x y) l asks s = absurd (true≢false (sym asks ∙ d))
     flow-take tc (flows a b c d e) l asks s = go tc
       where
@@ -193,10 +204,10 @@ module _ (g : Geometry) (cylinder : ℕ) (transfer : Transfer) (aim : Aim) (img 
         size : length (t .got ++ (frontOf f ∷ [])) ≡ length (t .got) + 1
         size = length-append (t .got) (frontOf f ∷ [])
 
-        go : (tc : Bool) → Flow n done (takenOf tc f) (tookOne (frontOf f) tc t)
+        go : (tc : Bool) → Flow late n done (takenOf tc f) (tookOne (frontOf f) tc t)
         go true =
-            ended (told-tc f) (or-true (t .told)) (told-count f) (told-asks f) (come-part (t .got ++ (frontOf f ∷ [])) (held (takenOf false f)) all)
-            (omega (arith, size)) (omega (arith, size, d, some))
+            ended (told-tc f) (λ _. or-true (t .told)) (told-count f) (told-asks f)
+            (come-part (t .got ++ (frontOf f ∷ [])) (held (takenOf false f)) all) (λ _. omega (arith, size)) (omega (arith, size, d, some))
         go false =
             flows (taken-tc f ∙ a) (rw b) (omega (arith, size)) (omega (arith, size, d, taken-count f, some)) all
 
@@ -215,10 +226,16 @@ module _ (g : Geometry) (cylinder : ℕ) (transfer : Transfer) (aim : Aim) (img 
         is = c .is;
       }
 
-  pub flow-skip : (efifo : Bool) (n : ℕ) (f : Fifo) (t : Taken) → FitsFifo efifo f → ((j : ℕ) → j < n → num′ j ≡ num j)
-      → f .tc ≡ false → Flow g cylinder transfer aim img num n 0 f t → Flow g cylinder transfer aim img num′ n 0 f t
-  flow-skip efifo n f t fits stay u (flows a b c d e) =
+  pub flow-skip : (efifo late : Bool) (n : ℕ) (f : Fifo) (t : Taken) → FitsFifo efifo f
+      → ((j : ℕ) → j < n → num′ j ≡ num j) → f .tc ≡ false → Flow g cylinder transfer aim img num late n 0 f t
+      → Flow g cylinder transfer aim img num′ late n 0 f t
+  flow-skip efifo late n f t fits stay u (flows a b c d e) =
       flows a b c d
       (come-skip n (t .got ++ held f) stay
-      (omega (arith, length-append (t .got) (held f), held-size g cylinder transfer aim img num efifo n 0 f t fits, d)) e)
-  flow-skip efifo n f t fits stay u (ended a b c d e x y) = absurd (true≢false (sym a ∙ u))
+      (omega (
+        arith,
+        length-append (t .got) (held f),
+        held-size g cylinder transfer aim img num efifo late n 0 f t fits,
+        d,
+      )) e)
+  flow-skip efifo late n f t fits stay u (ended a b c d e x y) = absurd (true≢false (sym a ∙ u))

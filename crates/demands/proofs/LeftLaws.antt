@@ -24,7 +24,7 @@ use Rattle.image.specs.Slot.{idAt}
 use Rattle.image.specs.Sound.{markIn}
 use Rattle.sectors.specs.declared.order.Transfer.{Transfer}
 use Rattle.demands.specs.History.{Sector, Begun, no-one, some-of, History, noHistory, notedStore, handed, storedBy}
-use Rattle.demands.specs.PowerCut.{Aim, aimNo, Followed, Counts, Stands, HalfDone, AllFinished, BegunHalf, begunBytes, SparesAll, LeftBy}
+use Rattle.demands.specs.PowerCut.{Aim, aimNo, Followed, Counts, Stands, HalfDone, AllFinished, BegunHalf, begunBytes, SparesAll, LeftBy, passing, storedCount, sectorCount, LastShort}
 use Rattle.demands.proofs.AddressLaws.{Behind, behind-differs, AllBehind, aim-byte}
 use Rattle.image.specs.declared.lent.Effect.{Effect}
 
@@ -32,10 +32,6 @@ use Rattle.image.specs.declared.lent.Effect.{Effect}
 pub record Inside (g : Geometry) (at p : ℕ) : Type 0 where
   pub from : at ≤ p
   pub below : p < at + 5 + sizeOf (g .n)
-
--- the bytes stored so far
-abbrev pub storedCount : Geometry → History → ℕ
-storedCount g h = length (h .finished) * sizeOf (g .n) + begunBytes (h .begun)
 
 -- a slot with an ID had one before
 abbrev Marks : Geometry → List ℕ → List ℕ → Type 0
@@ -183,12 +179,20 @@ module _ (g : Geometry) (cylinder : ℕ) (transfer : Transfer) (aim : Aim) (old 
         spares-all img host p n at all st i before (omega arith) rest,
       )
 
+  -- a sector that is short is the last one, since each has a host byte of its own
+  last-short : (h : History) → ((k : ℕ) → k < sectorCount h → k * passing g < length (h .host)) → LastShort g h
+  last-short h fed k l m = go (le-or-lt (sectorCount h) (k + 1))
+    where
+      go : (sectorCount h ≤ k + 1) ⊎ (k + 1 < sectorCount h) → k + 1 ≡ sectorCount h
+      go (inl a) = omega arith
+      go (inr a) = absurd (omega (arith, fed (k + 1) a))
+
   -- Nothing done yet.
   pub left-fresh : Left old noHistory
   left-fresh = record {
     finished = tt;
     begun = tt;
-    ran-out = λ l. absurd (omega arith);
+    ran-out = λ l. inr (last-short noHistory (λ k l. absurd (omega arith)));
     fed = λ k l. absurd (omega arith);
     no-further = λ k l. absurd (omega arith);
     others = λ i a b. refl;
@@ -207,8 +211,8 @@ module _ (g : Geometry) (cylinder : ℕ) (transfer : Transfer) (aim : Aim) (old 
         record {
           finished = all-host img (h .host) byte (h .finished) (omega arith) (left .finished);
           begun = go (h .begun) (left .begun) (omega arith);
-          ran-out = λ m. absurd (omega (arith, length-append (h .host) (byte ∷ [])));
-          fed = λ k m. omega (arith, left .fed k m, length-append (h .host) (byte ∷ []));
+          ran-out = λ m. inr (last-short (handed byte tc h) more);
+          fed = more;
           no-further = left .no-further;
           others = left .others;
           ids = left .ids;
@@ -216,6 +220,9 @@ module _ (g : Geometry) (cylinder : ℕ) (transfer : Transfer) (aim : Aim) (old 
           marked = left .marked;
         }
       where
+        more : (k : ℕ) → k < sectorCount h → k * passing g < length (h .host ++ (byte ∷ []))
+        more k m = omega (arith, left .fed k m, length-append (h .host) (byte ∷ []))
+
         go : (b : Begun) → BegunHalf g cylinder transfer aim old img (h .host) now b
             → now * sizeOf (g .n) + begunBytes b ≤ length (h .host)
             → BegunHalf g cylinder transfer aim old img (h .host ++ (byte ∷ [])) now b
@@ -264,7 +271,12 @@ module _ (g : Geometry) (cylinder : ℕ) (transfer : Transfer) (aim : Aim) (old 
                     (rw none tt);
               },
             );
-            ran-out = λ l. left .ran-out (rw none (omega arith));
+            ran-out = λ l. inr (last-short (record {
+              host = h .host;
+              told = h .told;
+              finished = h .finished;
+              begun = some-of at [];
+            }) (λ k l. own-byte k (le-or-lt now k) l));
             fed = λ k l. own-byte k (le-or-lt now k) l;
             no-further = λ k l. on k (omega arith);
             others = λ i a b. getD-set-other img at i broken 0 (b .0) ∙ left .others i a (rw none tt);
@@ -286,9 +298,8 @@ module _ (g : Geometry) (cylinder : ℕ) (transfer : Transfer) (aim : Aim) (old 
       -- one byte more
       pub left-puts : (p v : ℕ) → length bytes < sizeOf (g .n) → p ≡ at + 5 + length bytes
           → v ≡ getD (h .host) (now * sizeOf (g .n) + length bytes) 0
-          → (length (h .host) < now * sizeOf (g .n) + length bytes + 1 → h .told ≡ true)
           → Left (set img p v) (notedStore (Store p v) h)
-      left-puts p v l e f out =
+      left-puts p v l e f =
           let (st, hd) = half in
           let inside = stands-inside g cylinder old fits (No now) at st in
           let own : Inside g at p = record { from = omega arith; below = omega arith } in
@@ -308,7 +319,12 @@ module _ (g : Geometry) (cylinder : ℕ) (transfer : Transfer) (aim : Aim) (old 
                 old-bytes = λ i a b. other i (λ t. omega arith) ∙ hd .old-bytes i (omega arith) b;
               },
             );
-            ran-out = λ t. out (omega arith);
+            ran-out = λ t. inr (last-short (record {
+              host = h .host;
+              told = h .told;
+              finished = h .finished;
+              begun = some-of at (bytes ++ (v ∷ []));
+            }) (λ k t. left .fed k (rw some t)));
             fed = λ k t. left .fed k (rw some t);
             no-further = λ k t. left .no-further k (rw some t);
             others = λ i a b.
@@ -353,7 +369,12 @@ module _ (g : Geometry) (cylinder : ℕ) (transfer : Transfer) (aim : Aim) (old 
               all-stay img (h .host) at good now at all st own (h .finished) (omega arith) (left .finished),
             );
             begun = tt;
-            ran-out = λ t. left .ran-out (rw some (omega arith));
+            ran-out = λ t. inr (last-short (record {
+              host = h .host;
+              told = h .told;
+              finished = record { at = at; bytes = bytes } ∷ h .finished;
+              begun = no-one;
+            }) (λ k t. left .fed k (rw some (omega arith))));
             fed = λ k t. left .fed k (rw some (omega arith));
             no-further = λ k t. left .no-further k (rw some (omega arith));
             others = λ i a b. getD-set-other img at i good 0 (a .0 .0) ∙ left .others i (a .1) (rw some (a .0));

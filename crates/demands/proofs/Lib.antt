@@ -2,6 +2,7 @@ pub mod AcknowledgedLaws
 pub mod AddressLaws
 pub mod AfterTcLaws
 pub mod BoundLaws
+pub mod BreakLaws
 pub mod CallLaws
 pub mod CallRules
 pub mod CountLaws
@@ -21,6 +22,7 @@ pub mod HandedOverLaws
 pub mod HandedStream
 pub mod HeldLaws
 pub mod InTimeLaws
+pub mod LateLaws
 pub mod LeftLaws
 pub mod LoadsBackLaws
 pub mod NotFoundLaws
@@ -35,6 +37,7 @@ pub mod RequestLaws
 pub mod RoundTripLaws
 pub mod ScriptLaws
 pub mod SearchLaws
+pub mod ShortLaws
 pub mod SoundLaws
 pub mod SplitLaws
 pub mod StepsLaws

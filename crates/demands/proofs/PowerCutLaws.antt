@@ -5,7 +5,7 @@ use native.Mathlib.Nat.{mod-eq-of-lt}
 use native.Mathlib.Omega.{arith}
 use mathlib.Core.Bool.{Bool, true, false, not, _&&_, _||_, or-true, false≢true, true≢false}
 use mathlib.Core.List.{List, [], _∷_}
-use mathlib.Core.Logic.{inr}
+use mathlib.Core.Logic.{_⊎_, inl, inr}
 use mathlib.Core.Path.{_≡_, refl, sym, ap, _∙_, subst}
 use lib.Dec.{ltb}
 use borrow.Author.Tests.{ltb-true, eq-eqb, not-false}
@@ -35,7 +35,7 @@ use Rattle.sectors.specs.declared.work.Then.the-variants.{Ends, Works}
 use Rattle.sectors.specs.declared.work.Work.the-variants.{Identifying, Moving, Formatting}
 use Rattle.engine.specs.First.{changes, gateOf, givenId, movingOf, startJob, enteredOf, beginOf}
 use Rattle.sectors.specs.declared.work.Verdict.{Verdict}
-use Rattle.sectors.specs.Result.{st0Of, otherBit, endOf, moveEnd, moveFails}
+use Rattle.sectors.specs.Result.{st0Of, otherBit, lateBit, endOf, moveEnd, moveFails}
 use Rattle.engine.specs.Step.{toHost, lostOf, workStep, goOnOf, passFlow}
 use Rattle.sectors.specs.Track.{hasTrack, staysOf}
 use Rattle.fdc.specs.declared.record.Controller.{Controller}
@@ -52,15 +52,15 @@ use Rattle.reached.specs.Runs.{Call, ticks, answerTo, after, runCalls}
 use Rattle.fdc.specs.Ticks.{seenOf, settledOf, decidedOf, ruledOf, tickOf, imageAfter}
 use Rattle.demands.specs.Acknowledged.{resultByte, resultId, Acknowledges}
 use Rattle.demands.specs.History.{History, noHistory, notedStore, handed, historyBy, historyOf}
-use Rattle.demands.specs.PowerCut.{Writes, Aim, headOf, PowerCut}
+use Rattle.demands.specs.PowerCut.{Writes, Aim, aimNo, headOf, storedCount, PowerCut}
 use Rattle.demands.specs.Work.{atWork, Its, imageBy, imageLeft, Handed, Alone, Real}
 use Rattle.demands.proofs.CallLaws.{tick-starts, tick-works, call-rule}
 use Rattle.demands.proofs.CallRules.{NoTick, FifoRule, same, took, gave, Keeps, CallRule, cut-off, goes-on}
 use Rattle.demands.proofs.SplitLaws.{tick-or-not, image-same}
 use Rattle.demands.specs.Quiet.{Quiet}
-use Rattle.demands.proofs.CutLaws.{some≢none, Sofar, Busy, Says, OnThen, OnStep, fails-says, busy-rule}
+use Rattle.demands.proofs.CutLaws.{some≢none, not-80, shown-all, Sofar, Busy, Says, OnThen, OnStep, ended-says, busy-rule}
 use Rattle.demands.proofs.FifoStream.{Open, open-opened, open-given, stream-fresh, stream-within, held-given}
-use Rattle.demands.proofs.LeftLaws.{storedCount, left-fresh, left-handed}
+use Rattle.demands.proofs.LeftLaws.{left-fresh, left-handed}
 use Rattle.demands.proofs.QuietLaws.{quiet-real, quiet-after}
 use Rattle.demands.proofs.TickRules.{transfer-rule}
 
@@ -115,12 +115,13 @@ module _ (g : Geometry) (cylinder : ℕ) (order : Order) (transfer : Transfer) (
       → Says-so (record { st0 = st0Of false drive (order .side); st1 = st1; st2 = st2; id = id }) noHistory
   shut-says st1 st2 other =
       record {
-        address = refl;
+        address = ap (λ (k : ℕ). aimNo transfer aim k .id) (sym (shown-all g noHistory (inr (omega arith))));
         normal = λ l. absurd (omega arith);
         safe = λ a. absurd (false≢true (a .told));
         clean = λ l. absurd (omega arith);
         no-more = λ l. absurd (omega arith);
         past-eot = λ e. absurd (other e);
+        short = λ t l. absurd (omega arith);
         broken = λ at bytes e. absurd (some≢none at bytes (sym e));
       }
 
@@ -160,8 +161,10 @@ module _ (g : Geometry) (cylinder : ℕ) (order : Order) (transfer : Transfer) (
           );
           request = open-opened efifo;
           stream = stream-fresh (0 * sizeOf (g .n) + 0) false (omega arith);
-          tc = λ e. absurd (false≢true e);
+          tc = λ e n. absurd (false≢true e);
           heard = λ e. absurd (false≢true e);
+          late = λ e. absurd (false≢true e);
+          timely = λ n. refl;
           more = λ e n. absurd (false≢true e);
           sofar = done-fresh;
         })
@@ -193,10 +196,14 @@ module _ (g : Geometry) (cylinder : ℕ) (order : Order) (transfer : Transfer) (
   lost site task =
       record {
         st0 = st0Of false (site .drive) (site .side);
-        st1 = 0x01;
+        st1 = lateBit (task .late) + 0x01;
         st2 = otherBit (task .other) + 0x00;
         id = task .id;
       }
+
+  lost-bits : (late : Bool) → (lateBit late + 0x01 ≡ 0x01) ⊎ (lateBit late + 0x01 ≡ 0x11)
+  lost-bits true = inr refl
+  lost-bits false = inl refl
 
   -- A later tick.
   later-step : (efifo : Bool) (fifothr : ℕ) (site : Site) (task : Task) (stage : Stage) (fifo : Fifo) (img : List ℕ)
@@ -210,8 +217,8 @@ module _ (g : Geometry) (cylinder : ℕ) (order : Order) (transfer : Transfer) (
       (transfer-rule cylinder img efifo fifothr site task fifo stage))
       (λ t. (
         b .sofar,
-        fails-says g cylinder drive transfer aim old fits hr he wr efifo fifothr b (lost site task) 0x01 f
-            (record { st0 = refl; st1-is = refl; id = refl }) (λ e. omega arith) (inr (inr refl)),
+        ended-says g cylinder drive transfer aim old fits hr he wr efifo fifothr b (lost site task) f refl refl
+            (not-80 (task .late) 0x01 (inl refl)) (inr (lost-bits (task .late))),
       ))
 
   -- what the result in the record says
@@ -299,8 +306,10 @@ module _ (g : Geometry) (cylinder : ℕ) (order : Order) (transfer : Transfer) (
         link = b .link;
         request = open-given efifo (tc && hears) byte fifo a (b .request);
         stream = held-given efifo fifo f (h .host) (storedCount g h) (tc && hears) byte a (b .request) (b .stream);
-        tc = told-tc efifo tc hears (h .told) byte fifo a (b .request);
+        tc = λ e n. told-tc efifo tc hears (h .told) byte fifo a (b .request) e;
         heard = heard-tc efifo tc hears (h .told) byte fifo y a (b .request) (b .heard);
+        late = λ t. absurd (omega (arith, b .late t .beyond));
+        timely = b .timely;
         more = λ t n. given-some efifo (tc && hears) byte fifo (b .request .room a);
         sofar = left-handed g cylinder transfer aim old fits hr img h (b .sofar) byte tc within;
       }

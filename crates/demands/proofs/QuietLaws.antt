@@ -42,7 +42,7 @@ use Rattle.reached.specs.Runs.{Call, powers, writes, answerTo, after, runCalls}
 use Rattle.reached.proofs.GoodLaws.{four-of, good-power-on, good-after}
 use Rattle.reached.proofs.RuleLaws.{each-of, collects-unengaged, rule-of}
 use Rattle.reached.proofs.Rules.{engaged, DriveRule, kept, noted, powered, reset, restarted, released, sensed, set-off, ticked, Told, Orders, moving, formatting, identifying, Acts, begins, goes-on, bytesThen, phaseThen, Rest, refuses, shows, steps, flags, sets, anew, took-byte, gave-byte, gathers, says, idles, specifies, configures, senses, starts, acts}
-use Rattle.demands.specs.Work.{OfBytes, AllOfBytes, Real, atWork}
+use Rattle.demands.specs.Work.{OfBytes, AllOfBytes, Real, atWork, Its}
 use Rattle.demands.specs.Quiet.{ResetQuiet, Proper, AllBytes, Each, StandsStill, Settled, Quiet}
 
 -- lists of bytes
@@ -303,6 +303,12 @@ quiet-by call c bytewise q =
 -- 01 Refusals: what a real record keeps to, any call of a command at work keeps
 pub quiet-after : (call : Call) (c : Controller) → Quiet c → atWork (c .phase) ≡ true → Quiet (after call c)
 quiet-after call c q w = quiet-by call c (λ byte e f. never _ f w) q
+
+-- so that the record stays so through the command's calls
+pub quiet-its : (calls : List Call) (c : Controller) → Quiet c → Its calls c → Quiet (runCalls calls c)
+unfolding Its runCalls
+quiet-its [] c q i = q
+quiet-its (call ∷ calls) c q i = quiet-its calls (after call c) (quiet-after call c q (i .0)) (i .1)
 
 pub quiet-run : (calls : List Call) (c : Controller) → AllOfBytes calls → Quiet c → Quiet (runCalls calls c)
 unfolding runCalls

@@ -219,7 +219,7 @@ module _ (order : Order) (transfer : Transfer) (id : Id) (a b : List ℕ) (g : G
             untold = untold (x .flow);
           }
         where
-          untold : Flow g cylinder transfer (record { id = id; side = order .side }) img (x .num) (x .n)
+          untold : Flow g cylinder transfer (record { id = id; side = order .side }) img (x .num) (task .late) (x .n)
               (doneIn g cylinder drive transfer (record { id = id; side = order .side }) img stage) (c .fifo) t
               → t .told ≡ false
           untold (flows y z lo sum all) = z

@@ -84,7 +84,8 @@ use Rattle.demands.proofs.QuietLaws.{quiet-real, quiet-after}
 use Rattle.demands.proofs.SearchLaws.{Ahead, ahead-fresh, ahead-misses, ahead-passes, ahead-found}
 use Rattle.demands.proofs.TickRules.{beq-same, marked, hits, endsWith, NextEnds, NextRule, stops, turns, steps}
 use Rattle.demands.proofs.TickRules.{Filled, Rule, notFound, noData, noSide, late, misses, passes, toWrite}
-use Rattle.demands.proofs.TickRules.{toRead, skips, turned-over, waits, begins, puts, pads, finishes, moves}
+use Rattle.demands.proofs.TickRules.{toRead, skips, turned-over, waits, begins, puts, pads, dries, ends-short}
+use Rattle.demands.proofs.TickRules.{finishes, moves, overruns, overruns-last, ends-late}
 use Rattle.demands.proofs.TickRules.{moves-last, drains, data-error, other-kind, drained, transfer-rule}
 
 -- which of n and last is before: by the bytes
@@ -147,7 +148,7 @@ module _ (g : Geometry) (cylinder drive : ℕ) (transfer : Transfer) (aim : Aim)
   bytesIn stage = doneIn g cylinder drive transfer aim img stage
 
   abbrev Flowing : ℕ → ℕ → Fifo → Taken → Type 0
-  Flowing n done f t = Flow g cylinder transfer aim img (λ j. j) n done f t
+  Flowing n done f t = Flow g cylinder transfer aim img (λ j. j) false n done f t
 
   -- at sector number n
   record Course (n : ℕ) (stage : Stage) (f : Fifo) (t : Taken) : Type 0 where
@@ -253,7 +254,7 @@ module _ (g : Geometry) (cylinder drive : ℕ) (transfer : Transfer) (aim : Aim)
         ∙ sym (plan .all .good n (w .within) .stands .place)) in
         rw (x .after) (
           some-filled efifo fifothr end _ f (w .asks),
-          flow-fill g cylinder transfer aim img (λ j. j) efifo n done f t fit fifothr end _ _ fl l
+          flow-fill g cylinder transfer aim img (λ j. j) efifo false n done f t fit fifothr end _ _ fl l
               (plan .all .good n (w .within) .stands) (λ i before. plan .all .on i (omega (arith, w .within)))
               (λ k. record {
                 broken = false;
@@ -285,7 +286,7 @@ module _ (g : Geometry) (cylinder drive : ℕ) (transfer : Transfer) (aim : Aim)
         go : Flowing n P f t → Gives t o
         go (flows a b lo sum all) = no-more a (more a z fl)
         go (ended a b none off all lo hi) =
-            let (q, x) = plan .told n t told (w .within) b hi in
+            let (q, x) = plan .told n t told (w .within) (b refl) hi in
             ends verdict (over-at verdict (f .tc) q (a ∙ sym x) v) e
     next o z fl (turns u r m d e) = go (more u z fl)
       where
@@ -323,7 +324,7 @@ module _ (g : Geometry) (cylinder drive : ℕ) (transfer : Transfer) (aim : Aim)
         let a : Ahead (g .slots) here look = rw p at (w .on) in
         absurd (data≢none _ _ (sym (mark-here n (w .within) (look .slot) (a .on-track) h) ∙ m))
     course-rule o (noSide slot verdict p ns v e) = absurd (true≢false (sym (has-side n (w .within)) ∙ ns))
-    course-rule o (late verdict v l e) = absurd (timely l)
+    course-rule o (late verdict v l k e) = absurd (timely l)
     course-rule o (misses look on p h l s q e) =
         let a : Ahead (g .slots) here look = rw p at (w .on) in
         goes n (Searching on) f
@@ -355,7 +356,9 @@ module _ (g : Geometry) (cylinder drive : ℕ) (transfer : Transfer) (aim : Aim)
     course-rule o (begins slot wait p l e) = absurd (rw p at (w .on))
     course-rule o (puts slot done p l c e) = absurd (rw p at (w .on))
     course-rule o (pads slot done p l c u e) = absurd (rw p at (w .on))
-    course-rule o (finishes slot done p l x) = absurd (rw p at (w .on))
+    course-rule o (dries slot done p l c u e) = absurd (rw p at (w .on))
+    course-rule o (ends-short slot done verdict p l u y v e) = absurd (rw p at (w .on))
+    course-rule o (finishes slot done p l u x) = absurd (rw p at (w .on))
     course-rule o (moves sector done f′ p l x e) =
         let (s, d) = rw p at (w .on) in
         let (a, fl) = fill sector done false f′ s d (rw p at (w .flow)) x in
@@ -366,16 +369,19 @@ module _ (g : Geometry) (cylinder drive : ℕ) (transfer : Transfer) (aim : Aim)
         let (a, fl) = fill sector done true f′ s d (rw p at (w .flow)) x in
         goes n (Draining sector 0) f′
         (to (Draining sector 0) f′ s a (subst (λ (k : ℕ). Flowing n k f′ t) z fl)) e
+    course-rule o (overruns sector done p l u v e) = absurd (timely (rw p (u, v)))
+    course-rule o (overruns-last sector done p l u v e) = absurd (timely (rw p (u, v)))
     course-rule o (drains sector looks p l e) =
         goes n (Draining sector (looks + 1)) f
         (to (Draining sector (looks + 1)) f (rw p at (w .on)) (w .asks) (rw p at (w .flow))) e
     course-rule o (data-error sector looks verdict p q y v e) =
         let s : sector ≡ sectorAt here = rw p at (w .on) in
         absurd (false≢true (sym (ap (λ (y : Sector). y .broken) s) ∙ q))
-    course-rule o (other-kind sector looks verdict p q z ok os v zc e) =
+    course-rule o (ends-late sector looks verdict p q y v e) = absurd (false≢true y)
+    course-rule o (other-kind sector looks verdict p q y z ok os v zc e) =
         let s : sector ≡ sectorAt here = rw p at (w .on) in
         absurd (false≢true (sym (ap (λ (y : Sector). y .other) s) ∙ ok))
-    course-rule o (drained sector looks p q ok zc x) =
+    course-rule o (drained sector looks p q y ok zc x) =
         let s : sector ≡ sectorAt here = rw p at (w .on) in
         next o zc (rw p at (w .flow)) (rw s at x)
 
@@ -464,7 +470,7 @@ module _ (g : Geometry) (cylinder : ℕ) (order : Order) (transfer : Transfer) (
   unfolding settledOf withFifo withPhase answeredOf
   landed c t o (goes n stage f w e) = rw e (works n stage refl w)
   landed c t o (ends verdict v e) =
-      rw e (over (record { waits = refl; st0 = v .st0; st1 = v .st1; st2 = v .st2; address = v .id }))
+      rw e (over (record { waits = refl; st0 = v .st0; st1 = omega (arith, v .st1); st2 = v .st2; address = v .id }))
 
   no-effect : (t : Taken) (o : Step) → Leads t o → o .effect ≡ Nothing
   no-effect t o (goes n stage f w e) = rw e
@@ -530,8 +536,8 @@ module _ (g : Geometry) (cylinder : ℕ) (order : Order) (transfer : Transfer) (
         within = w .within;
         on = w .on;
         asks = some-taken tc f;
-        flow = flow-take g cylinder transfer aim img (λ j. j) efifo n _ f t fit tc (w .flow) (most stage (w .on)) a
-            (w .asks);
+        flow = flow-take g cylinder transfer aim img (λ j. j) efifo false n _ f t fit tc (w .flow)
+            (most stage (w .on)) a (w .asks);
       }
     where
       most : (stage : Stage)

@@ -69,7 +69,7 @@ use Rattle.demands.specs.DataError.{Spins}
 use Rattle.demands.specs.EndsInTime.{boundOf}
 use Rattle.demands.specs.History.{Sector, Begun, no-one, some-of, History, noHistory, historyBy}
 use Rattle.demands.specs.InTime.{Late, AtTick, AtTicks, Timely, InTime}
-use Rattle.demands.specs.PowerCut.{Aim, aimNo, Counts, Stands, Spares, AllFinished, BegunHalf, SparesAll, SparesBegun, LeftBy, Writes, headOf, passing}
+use Rattle.demands.specs.PowerCut.{Aim, aimNo, Counts, Stands, Spares, AllFinished, BegunHalf, SparesAll, SparesBegun, LeftBy, Writes, headOf, passing, storedCount}
 use Rattle.demands.specs.Quiet.{Quiet}
 use Rattle.demands.specs.Succeeds.{
   Writable,
@@ -95,7 +95,7 @@ use Rattle.demands.proofs.DataErrorLaws.{disk-left}
 use Rattle.demands.proofs.EndsLaws.{ends-in-time-quiet}
 use Rattle.demands.proofs.FifoStream.{stream-within, held-more, held-none}
 use Rattle.demands.proofs.InTimeLaws.{prompt-in-time-quiet}
-use Rattle.demands.proofs.LeftLaws.{storedCount, front-differs, noted-host}
+use Rattle.demands.proofs.LeftLaws.{front-differs, noted-host}
 use Rattle.demands.proofs.PowerCutLaws.{Run, is-over, to-start, at-it, run-after}
 use Rattle.demands.proofs.QuietLaws.{quiet-real, quiet-after}
 use Rattle.demands.proofs.RequestLaws.{test-on, test-off}
@@ -123,11 +123,16 @@ use Rattle.demands.proofs.TickRules.{
   begins,
   puts,
   pads,
+  dries,
+  ends-short,
   finishes,
   moves,
   moves-last,
+  overruns,
+  overruns-last,
   drains,
   data-error,
+  ends-late,
   other-kind,
   drained,
   transfer-rule,
@@ -243,7 +248,7 @@ stands-hits g cylinder transfer first old img h site task aim at fits left disk 
     and-on _ _ (ap (λ (x : ℕ). marked (markOf (getD img x 0))) p ∙ m)
     (ap (λ (x : Id). matches x (task .id) (site .disk .n)) e ∙ matches-same (task .id) (site .disk .n) n)
 
--- the slots of the track that match all lie ahead of the search
+-- the slots of the track that match all lie ahead of the search, and no byte of the sector in hand was missing
 abbrev Seeks : ℕ → List ℕ → Site → Task → Search → Type 0
 Seeks cylinder img site task look =
     (k : ℕ) → k < site .disk .slots → hits img site cylinder task k ≡ true → Ahead (site .disk .slots) k look
@@ -254,7 +259,7 @@ OnStage cylinder img site task (Turning slot) = Unit {0}
 OnStage cylinder img site task (Reading sector done) = Unit {0}
 OnStage cylinder img site task (Draining sector looks) = Unit {0}
 OnStage cylinder img site task (Awaiting slot wait) = Unit {0}
-OnStage cylinder img site task (Storing slot done) = Unit {0}
+OnStage cylinder img site task (Storing slot done) = task .late ≡ false
 
 abbrev OnWork : ℕ → List ℕ → Work → Type 0
 OnWork cylinder img (Identifying site slot looks) = Unit {0}
@@ -330,11 +335,12 @@ module _ (g : Geometry) (cylinder drive : ℕ) (transfer : Transfer) (aim : Aim)
         omega (arith, x .half .size, part .short)
 
     -- 01 Next: an end behind sector number `last`, and none before it but with TC
-    last-well : (tc : Bool) (verdict : Verdict) → now ≡ last → NextEnds tc site task verdict → Well tc verdict
-    last-well tc verdict e w =
+    last-well : (tc : Bool) (verdict : Verdict) → task .late ≡ false → now ≡ last → NextEnds tc site task verdict
+        → Well tc verdict
+    last-well tc verdict n e w =
         record {
           st0 = w .st0 ∙ rw (b .drive-is, b .side, e);
-          st1 = w .st1;
+          st1 = w .st1 ∙ rw n (omega arith);
           st2 = w .st2 ∙ ap otherBit (b .plain);
           id = w .id ∙ rw (b .id, b .told-to, b .side, e);
         }
@@ -375,10 +381,10 @@ module _ (g : Geometry) (cylinder drive : ℕ) (transfer : Transfer) (aim : Aim)
           go true t (some-of at bytes) e = let w = b .sofar .fed now (rw e (omega arith)) in omega arith
 
       -- after TC and with nothing held a full sector is the last one
-      is-last : Full → fifo .tc ≡ true → fifo .count ≡ 0 → now ≡ last
-      is-last x t z =
+      is-last : Full → task .late ≡ false → fifo .tc ≡ true → fifo .count ≡ 0 → now ≡ last
+      is-last x n t z =
           let all = held-none efifo fifo f (h .host) (storedCount g h) z (b .stream) in
-          let some = tells .0 (b .tc t) in
+          let some = tells .0 (b .tc t n) in
           let l = fewer last (suc now) (passing g) (omega (arith, fill .more, stored x)) in
           omega (arith, tc-low)
 
@@ -395,13 +401,13 @@ module _ (g : Geometry) (cylinder drive : ℕ) (transfer : Transfer) (aim : Aim)
               let w = held-more efifo fifo f (h .host) (storedCount g h) some (b .stream) in
               omega (arith, stored x)
 
-      tc-well : Full → (verdict : Verdict) → AtNext verdict → Well true verdict
-      tc-well x verdict v = go (fifo .tc && eqb (fifo .count) 0) refl v
+      tc-well : Full → task .late ≡ false → (verdict : Verdict) → AtNext verdict → Well true verdict
+      tc-well x n verdict v = go (fifo .tc && eqb (fifo .count) 0) refl v
         where
           go : (t : Bool) → (fifo .tc && eqb (fifo .count) 0) ≡ t → NextEnds t site task verdict → Well true verdict
           go true t w =
               let (tc, z) = test-on (fifo .tc) (fifo .count) t in
-              last-well true verdict (is-last x tc z) w
+              last-well true verdict n (is-last x n tc z) w
           go false t w = absurd (none-before verdict (not-last x t) w)
 
     -- At EOT.
@@ -413,23 +419,23 @@ module _ (g : Geometry) (cylinder drive : ℕ) (transfer : Transfer) (aim : Aim)
           go (inl l) = l
           go (inr l) = let (mt, side) = b .on last l (one .eot) in absurd (one .no-turn mt side)
 
-      eot-well : (verdict : Verdict) → AtNext verdict → Well false verdict
-      eot-well verdict v = go (fifo .tc && eqb (fifo .count) 0) refl v (le-or-lt last now)
+      eot-well : task .late ≡ false → (verdict : Verdict) → AtNext verdict → Well false verdict
+      eot-well n verdict v = go (fifo .tc && eqb (fifo .count) 0) refl v (le-or-lt last now)
         where
           go : (t : Bool) → (fifo .tc && eqb (fifo .count) 0) ≡ t → NextEnds t site task verdict
               → (last ≤ now) ⊎ (now < last) → Well false verdict
-          go true t w c = absurd (true≢false (sym (b .tc (test-on (fifo .tc) (fifo .count) t .0)) ∙ untold))
-          go false t w (inl l) = last-well false verdict (omega (arith, eot-low)) w
+          go true t w c = absurd (true≢false (sym (b .tc (test-on (fifo .tc) (fifo .count) t .0) n) ∙ untold))
+          go false t w (inl l) = last-well false verdict n (omega (arith, eot-low)) w
           go false t w (inr l) = absurd (none-before verdict l w)
 
     low : (plan : Plan g transfer aim last) → Few plan h → Keeping plan h → now ≤ last
     low (by-tc total fill) few tells = tc-low total fill few tells
     low (by-eot one) few untold = eot-low one untold
 
-    next-well : (plan : Plan g transfer aim last) → Few plan h → Keeping plan h → Full → (verdict : Verdict)
-        → AtNext verdict → Well (tcOf plan) verdict
-    next-well (by-tc total fill) few tells x verdict v = tc-well total fill few tells x verdict v
-    next-well (by-eot one) few untold x verdict v = eot-well one untold verdict v
+    next-well : (plan : Plan g transfer aim last) → Few plan h → Keeping plan h → Full → task .late ≡ false
+        → (verdict : Verdict) → AtNext verdict → Well (tcOf plan) verdict
+    next-well (by-tc total fill) few tells x n verdict v = tc-well total fill few tells x n verdict v
+    next-well (by-eot one) few untold x n verdict v = eot-well one untold n verdict v
 
     -- Either way.
     module _ (plan : Plan g transfer aim last) (few : Few plan h) (keeps : Keeping plan h) where
@@ -437,11 +443,11 @@ module _ (g : Geometry) (cylinder drive : ℕ) (transfer : Transfer) (aim : Aim)
       Goes o = Gives (tcOf plan) o img
 
       -- 01 Next
-      next-goes : (o : Step) (effect : Effect) (x : Full)
+      next-goes : (o : Step) (effect : Effect) (x : Full) → task .late ≡ false
           → NextRule (fifo .tc && eqb (fifo .count) 0) (x .slot) site task fifo effect o → Goes o
-      next-goes o effect x (stops verdict v e) = rw e (next-well plan few keeps x verdict v)
-      next-goes o effect x (turns u r t d e) = rw e tt
-      next-goes o effect x (steps u r e) =
+      next-goes o effect x n (stops verdict v e) = rw e (next-well plan few keeps x n verdict v)
+      next-goes o effect x n (turns u r t d e) = rw e tt
+      next-goes o effect x n (steps u r e) =
           rw e (λ k l hit. ahead-fresh _ k _ (next-slot-below (x .slot) (site .disk .slots) some-slots))
 
       is-there : IsThere g old cylinder (aimNo transfer aim now)
@@ -481,7 +487,7 @@ module _ (g : Geometry) (cylinder drive : ℕ) (transfer : Transfer) (aim : Aim)
           absurd (ahead-found img site cylinder task k inside hit look (seeks k inside hit) t l m)
       rule-goes o timely w (noData look verdict p t r m v e) = no-read r
       rule-goes o timely w (noSide slot verdict p ns v e) = absurd (true≢false (sym has-side ∙ ns))
-      rule-goes o timely w (late verdict v l e) = absurd (timely l)
+      rule-goes o timely w (late verdict v l x e) = absurd (timely l)
       rule-goes o timely w (misses look on p t l a q e) =
           let seeks : Seeks cylinder img site task look = rw p at w in
           rw e (λ k inside hit. ahead-misses img site cylinder task k inside hit look (seeks k inside hit) t on l a q)
@@ -495,18 +501,25 @@ module _ (g : Geometry) (cylinder drive : ℕ) (transfer : Transfer) (aim : Aim)
           let (on-disk, inside, none) = rw p at (b .link) in
           rw e (λ k l hit. ahead-fresh _ k slot (rw (b .disk) inside))
       rule-goes o timely w (waits slot wait p l e) = rw e tt
-      rule-goes o timely w (begins slot wait p l e) = rw e tt
-      rule-goes o timely w (puts slot done p l c e) = rw e tt
-      rule-goes o timely w (pads slot done p l c t e) = rw e tt
-      rule-goes o timely w (finishes slot done p l n) =
+      rule-goes o timely w (begins slot wait p l e) =
+          let (hand, none) = rw p at (b .link) in
+          rw e (b .timely none)
+      rule-goes o timely w (puts slot done p l c e) = rw e (rw p at w)
+      rule-goes o timely w (pads slot done p l c t e) = rw e (rw p at w)
+      rule-goes o timely w (dries slot done p l c t e) = absurd ((rw p at timely) (l, c, t))
+      rule-goes o timely w (ends-short slot done verdict p l x y v e) = absurd (true≢false (sym x ∙ (rw p at w)))
+      rule-goes o timely w (finishes slot done p l x n) =
           let (hand, half) = rw p at (b .link) in
-          next-goes o _ (record { done = done; slot = slot; half = half; full = l }) n
+          next-goes o _ (record { done = done; slot = slot; half = half; full = l }) x n
       rule-goes o timely w (moves sector done fifo′ p l x e) = absurd (rw p at (b .link))
       rule-goes o timely w (moves-last sector done fifo′ p l x e) = absurd (rw p at (b .link))
+      rule-goes o timely w (overruns sector done p l x y e) = absurd (rw p at (b .link))
+      rule-goes o timely w (overruns-last sector done p l x y e) = absurd (rw p at (b .link))
       rule-goes o timely w (drains sector looks p l e) = absurd (rw p at (b .link))
       rule-goes o timely w (data-error sector looks verdict p q s v e) = absurd (rw p at (b .link))
-      rule-goes o timely w (other-kind sector looks verdict p q z ok os v zc e) = absurd (rw p at (b .link))
-      rule-goes o timely w (drained sector looks p q ok zc n) = absurd (rw p at (b .link))
+      rule-goes o timely w (ends-late sector looks verdict p q x v e) = absurd (rw p at (b .link))
+      rule-goes o timely w (other-kind sector looks verdict p q x z ok os v zc e) = absurd (rw p at (b .link))
+      rule-goes o timely w (drained sector looks p q x ok zc n) = absurd (rw p at (b .link))
 
 -- The record, call by call.
 module _ (g : Geometry) (cylinder : ℕ) (order : Order) (transfer : Transfer) (id : Id) (old : List ℕ)

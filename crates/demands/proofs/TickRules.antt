@@ -13,7 +13,7 @@ use borrow.Author.Tests.{leb-true, leb-false, eqb-true, eqb-false, eq-eqb, lt-lt
 use Rattle.image.proofs.TestLaws.{by-test, both}
 use Rattle.chip.specs.declared.fifo.Fifo.{Fifo}
 use Rattle.chip.specs.declared.next.Next.{Next}
-use Rattle.chip.specs.Fifo.{frontOf, filledOf, drawnOf, emptied, fullOf}
+use Rattle.chip.specs.Fifo.{frontOf, filledOf, drawnOf, emptied, fullOf, shut}
 use Rattle.chip.specs.Next.{advancedOf, nextOf}
 use Rattle.sectors.specs.declared.order.Pass.{Pass}
 use Rattle.sectors.specs.declared.order.Pass.the-variants.{Read, Write}
@@ -28,7 +28,7 @@ use Rattle.sectors.specs.declared.work.Then.the-variants.{Ends}
 use Rattle.sectors.specs.declared.work.Verdict.{Verdict}
 use Rattle.sectors.specs.Follow.{freshAt, withId, onSide, followedOf, followOf, turnOf}
 use Rattle.sectors.specs.Read.{overrun, lastByte, sectorOver, readOn, readOf, drainedOf, drainOf}
-use Rattle.sectors.specs.Result.{st0Of, otherBit, endOf, moveEnd, moveFails, movesOf}
+use Rattle.sectors.specs.Result.{st0Of, otherBit, lateBit, endOf, lateEnd, moveEnd, moveFails, movesOf, tardy}
 use Rattle.sectors.specs.Search.{slotOf, matches, withOther, secondPass, oneOn, missedOf, readFound, dataFound, bareFound, lookedOf, searchOf}
 use Rattle.sectors.specs.Search as finding
 use Rattle.engine.specs.Step.{stageOf}
@@ -56,11 +56,24 @@ hits img site head task slot =
 abbrev pub endsWith : Verdict → Effect → Step
 endsWith verdict effect = record { then = Ends verdict; fifo = emptied; effect = effect }
 
--- 01 Result: of an end that is no Next: 40, this ST1, the sector in hand
+-- 01 Result: of an end that is no Next: 40, this ST1 beside the 10 of a late byte, the sector in hand
 pub record Fails (st1 : ℕ) (site : Site) (task : Task) (verdict : Verdict) : Type 0 where
   pub st0 : verdict .st0 ≡ st0Of false (site .drive) (site .side)
-  pub st1-is : verdict .st1 ≡ st1
+  pub st1-is : verdict .st1 ≡ lateBit (task .late) + st1
   pub id : verdict .id ≡ task .id
+
+-- 02 2026-02: of an end for which a byte was late: 40, ST1 10, the sector in hand
+abbrev pub LateEnds : Site → Task → Verdict → Type 0
+LateEnds site task verdict = Fails 0x00 site (tardy task) verdict
+
+-- the stages that end when they have waited too long
+abbrev pub Waits : Stage → Type 0
+Waits (Searching look) = ⊥
+Waits (Turning slot) = ⊥
+Waits (Reading sector done) = ⊥
+Waits (Draining sector looks) = Unit {0}
+Waits (Awaiting slot wait) = Unit {0}
+Waits (Storing slot done) = ⊥
 
 -- 01 Read: of a sector of the other kind: IC 00, the sector in hand
 pub record EndsInHand (site : Site) (task : Task) (verdict : Verdict) : Type 0 where
@@ -70,7 +83,7 @@ pub record EndsInHand (site : Site) (task : Task) (verdict : Verdict) : Type 0 w
 -- 01 Next, Result: where Next ends it: normally with TC, else at EOT with 40 and ST1 80; the address is the next one
 pub record NextEnds (tc : Bool) (site : Site) (task : Task) (verdict : Verdict) : Type 0 where
   pub st0 : verdict .st0 ≡ st0Of tc (site .drive) (site .side)
-  pub st1 : verdict .st1 ≡ cond tc 0x00 0x80
+  pub st1 : verdict .st1 ≡ lateBit (task .late) + cond tc 0x00 0x80
   pub st2 : verdict .st2 ≡ otherBit (task .other)
   pub id : verdict .id ≡ advancedOf (task .id) (task .transfer .eot) (task .transfer .mt) (site .side) 1
   pub eot : tc ≡ false → task .id .r ≡ task .transfer .eot
@@ -110,7 +123,7 @@ pub data Rule (head : ℕ) (img : List ℕ) (efifo : Bool) (fifothr : ℕ) (site
   noSide : (slot : ℕ) (verdict : Verdict) → stage ≡ Turning slot → hasTrack (site .disk) head (site .side) ≡ false
       → Fails 0x01 site task verdict → o ≡ endsWith verdict Nothing
       → Rule head img efifo fifothr site task fifo stage o
-  late : (verdict : Verdict) → Fails 0x10 site task verdict → Late efifo site task fifo stage
+  late : (verdict : Verdict) → LateEnds site task verdict → Late efifo site task fifo stage → Waits stage
       → o ≡ endsWith verdict Nothing
       → Rule head img efifo fifothr site task fifo stage o
   -- the search
@@ -151,7 +164,16 @@ pub data Rule (head : ℕ) (img : List ℕ) (efifo : Bool) (fifothr : ℕ) (site
   pads : (slot done : ℕ) → stage ≡ Storing slot done → done < sectorBytes site → fifo .count ≡ 0 → fifo .tc ≡ true
       → o ≡ movesOf (Storing slot (done + 1)) site task fifo (Store (dataPlace site head slot done) 0x00)
       → Rule head img efifo fifothr site task fifo stage o
-  finishes : (slot done : ℕ) → stage ≡ Storing slot done → sectorBytes site ≤ done
+  -- a byte is missing: the first of the zeros
+  dries : (slot done : ℕ) → stage ≡ Storing slot done → done < passBytes site task → fifo .count ≡ 0 → fifo .tc ≡ false
+      → o ≡ movesOf (Storing slot (done + 1)) site (tardy task) shut (Store (dataPlace site head slot done) 0x00)
+      → Rule head img efifo fifothr site task fifo stage o
+  -- and the good mark of such a sector
+  ends-short : (slot done : ℕ) (verdict : Verdict) → stage ≡ Storing slot done → sectorBytes site ≤ done
+      → task .late ≡ true → verdict .st2 ≡ otherBit (task .other) + 0x00 → LateEnds site task verdict
+      → o ≡ endsWith verdict (Store (markPlace site head slot) (writtenMark false task))
+      → Rule head img efifo fifothr site task fifo stage o
+  finishes : (slot done : ℕ) → stage ≡ Storing slot done → sectorBytes site ≤ done → task .late ≡ false
       → NextRule (fifo .tc && eqb (fifo .count) 0) slot site task fifo (Store (markPlace site head slot) (writtenMark false task)) o
       → Rule head img efifo fifothr site task fifo stage o
   -- the read
@@ -162,18 +184,33 @@ pub data Rule (head : ℕ) (img : List ℕ) (efifo : Bool) (fifothr : ℕ) (site
   moves-last : (sector : Sector) (done : ℕ) (fifo′ : Fifo) → stage ≡ Reading sector done → sectorBytes site ≤ done + 1
       → Filled head img efifo fifothr site fifo sector done true fifo′
       → o ≡ movesOf (Draining sector 0) site task fifo′ Nothing → Rule head img efifo fifothr site task fifo stage o
+  -- the FIFO is full: the byte is lost
+  overruns : (sector : Sector) (done : ℕ) → stage ≡ Reading sector done → done + 1 < sectorBytes site
+      → fifo .tc ≡ false → fullOf efifo fifo ≡ true
+      → o ≡ movesOf (Reading sector (done + 1)) site (tardy task) shut Nothing
+      → Rule head img efifo fifothr site task fifo stage o
+  overruns-last : (sector : Sector) (done : ℕ) → stage ≡ Reading sector done → sectorBytes site ≤ done + 1
+      → fifo .tc ≡ false → fullOf efifo fifo ≡ true
+      → o ≡ movesOf (Draining sector 0) site (tardy task) shut Nothing
+      → Rule head img efifo fifothr site task fifo stage o
   drains : (sector : Sector) (looks : ℕ) → stage ≡ Draining sector looks → looks < 63
       → o ≡ movesOf (Draining sector (looks + 1)) site task fifo Nothing
       → Rule head img efifo fifothr site task fifo stage o
   data-error : (sector : Sector) (looks : ℕ) (verdict : Verdict) → stage ≡ Draining sector looks
       → sector .broken ≡ true → verdict .st2 ≡ otherBit (task .other) + 0x20
       → Fails 0x20 site task verdict → o ≡ endsWith verdict Nothing → Rule head img efifo fifothr site task fifo stage o
+  -- a sector of which a byte was lost, at its end
+  ends-late : (sector : Sector) (looks : ℕ) (verdict : Verdict) → stage ≡ Draining sector looks
+      → sector .broken ≡ false → task .late ≡ true → LateEnds site task verdict → o ≡ endsWith verdict Nothing
+      → Rule head img efifo fifothr site task fifo stage o
   other-kind : (sector : Sector) (looks : ℕ) (verdict : Verdict) → stage ≡ Draining sector looks
-      → sector .broken ≡ false → verdict .st1 ≡ 0x00 → sector .other ≡ true → verdict .st2 ≡ otherBit (task .other) + 0x00
+      → sector .broken ≡ false → task .late ≡ false → verdict .st1 ≡ 0x00 → sector .other ≡ true
+      → verdict .st2 ≡ otherBit (task .other) + 0x00
       → EndsInHand site task verdict → fifo .count ≡ 0 → o ≡ endsWith verdict Nothing
       → Rule head img efifo fifothr site task fifo stage o
   drained : (sector : Sector) (looks : ℕ) → stage ≡ Draining sector looks → sector .broken ≡ false
-      → sector .other ≡ false → fifo .count ≡ 0 → NextRule (fifo .tc) (sector .slot) site task fifo Nothing o → Rule head img efifo fifothr site task fifo stage o
+      → task .late ≡ false → sector .other ≡ false → fifo .count ≡ 0
+      → NextRule (fifo .tc) (sector .slot) site task fifo Nothing o → Rule head img efifo fifothr site task fifo stage o
 
 -- 01 Next
 module _ (slot : ℕ) (site : Site) (task : Task) (fifo : Fifo) (effect : Effect) where
@@ -223,11 +260,22 @@ module _ (head : ℕ) (img : List ℕ) (efifo : Bool) (fifothr : ℕ) (site : Si
       → Fails st1 site task
       (record {
         st0 = st0Of false (site .drive) (site .side);
-        st1 = st1;
+        st1 = lateBit (task .late) + st1;
         st2 = st2;
         id = task .id;
       })
   as-said = record { st0 = refl; st1-is = refl; id = refl }
+
+  -- and one for which a byte was late
+  as-late : {st2 : ℕ}
+      → LateEnds site task
+      (record {
+        st0 = st0Of false (site .drive) (site .side);
+        st1 = 0x10;
+        st2 = st2;
+        id = task .id;
+      })
+  as-late = record { st0 = refl; st1-is = refl; id = refl }
 
   -- the slot's address is the one sought; and a hit, by the slot's mark
   abbrev same-at : Search → Bool
@@ -333,9 +381,17 @@ module _ (head : ℕ) (img : List ℕ) (efifo : Bool) (fifothr : ℕ) (site : Si
   unfolding filledOf
   filled-told last byte t = rw t
 
+  over-rule : (sector : Sector) (done : ℕ) → fifo .tc ≡ false → fullOf efifo fifo ≡ true
+      → R (Reading sector done) (overrun sector done site task)
+  unfolding overrun readOn
+  over-rule sector done t u =
+      by-test (sectorOver site done) (R (Reading sector done)) _ _
+      (λ l. overruns-last sector done refl (leb-true _ _ l) t u refl)
+      (λ l. overruns sector done refl (leb-false _ _ l) t u refl)
+
   read-rule : (sector : Sector) (done : ℕ)
       → R (Reading sector done) (readOf sector done site task head img fifo efifo fifothr)
-  unfolding readOf overrun moveFails moveEnd endOf
+  unfolding readOf
   read-rule sector done =
       by-test (fifo .tc) (R (Reading sector done)) _ _
       (λ t. on-rule sector done fifo (λ last l. record {
@@ -343,52 +399,63 @@ module _ (head : ℕ) (img : List ℕ) (efifo : Bool) (fifothr : ℕ) (site : Si
         after = sym (filled-told last _ t);
       }))
       (λ t. by-test (fullOf efifo fifo) (R (Reading sector done)) _ _
-      (λ u. late _ as-said (t, u) refl)
+      (λ u. over-rule sector done t u)
       (λ u. on-rule sector done _ (λ last l. record { room = λ f. u; after = rw l })))
 
   drained-rule : (sector : Sector) (looks : ℕ) → fifo .count ≡ 0
       → R (Draining sector looks) (drainedOf sector site task fifo)
-  unfolding drainedOf moveFails moveEnd endOf
+  unfolding drainedOf lateEnd moveFails moveEnd endOf
   drained-rule sector looks z =
       by-test (sector .broken) (R (Draining sector looks)) _ _
       (λ t. data-error sector looks _ refl t refl as-said refl)
-      (λ t. by-test (sector .other) (R (Draining sector looks)) _ _
-      (λ u. other-kind sector looks _ refl t refl u refl (record { st0 = refl; id = refl }) z refl)
-      (λ u. drained sector looks refl t u z (follow-rule (sector .slot) site task fifo Nothing (fifo .tc))))
+      (λ t. by-test (task .late) (R (Draining sector looks)) _ _
+      (λ l. ends-late sector looks _ refl t l as-late refl)
+      (λ l. by-test (sector .other) (R (Draining sector looks)) _ _
+      (λ u. other-kind sector looks _ refl t l (ap (λ (b : Bool). lateBit b + 0x00) l) u refl
+      (record { st0 = refl; id = refl }) z refl)
+      (λ u. drained sector looks refl t l u z (follow-rule (sector .slot) site task fifo Nothing (fifo .tc)))))
 
   drain-rule : (sector : Sector) (looks : ℕ) → R (Draining sector looks) (drainOf sector looks site task fifo)
-  unfolding drainOf moveFails moveEnd endOf
+  unfolding drainOf lateEnd moveEnd endOf
   drain-rule sector looks =
       by-test (eqb (fifo .count) 0) (R (Draining sector looks)) _ _
       (λ t. drained-rule sector looks (eqb-true (fifo .count) 0 t))
       (λ t. by-test (leb 63 looks) (R (Draining sector looks)) _ _
-      (λ u. late _ as-said (pos-of t, leb-true 63 looks u) refl)
+      (λ u. late _ as-late (pos-of t, leb-true 63 looks u) tt refl)
       (λ u. drains sector looks refl (leb-false 63 looks u) refl))
 
   -- 01 Write
   await-rule : (slot wait : ℕ) → R (Awaiting slot wait) (awaitOf slot wait site task head fifo)
-  unfolding awaitOf moveFails moveEnd endOf
+  unfolding awaitOf lateEnd moveEnd endOf
   await-rule slot wait =
       by-test (eqb (fifo .count) 0) (R (Awaiting slot wait)) _ _
       (λ t. by-test (leb 63 wait) (R (Awaiting slot wait)) _ _
-      (λ u. late _ as-said (eqb-true (fifo .count) 0 t, leb-true 63 wait u) refl)
+      (λ u. late _ as-late (eqb-true (fifo .count) 0 t, leb-true 63 wait u) tt refl)
       (λ u. waits slot wait refl (leb-false 63 wait u) refl))
       (λ t. begins slot wait refl (pos-of t) refl)
 
   dry-rule : (slot done : ℕ) → done < sectorBytes site → fifo .count ≡ 0
       → R (Storing slot done) (dryOf slot done site task head fifo)
-  unfolding dryOf underrun putOf moveFails moveEnd endOf
+  unfolding dryOf underrun putOf
   dry-rule slot done l z =
       by-test (fifo .tc) (R (Storing slot done)) _ _
       (λ t. pads slot done refl l z t refl)
-      (λ t. late _ as-said (l, z, t) refl)
+      (λ t. dries slot done refl l z t refl)
+
+  written-rule : (slot done : ℕ) → sectorBytes site ≤ done
+      → R (Storing slot done) (writtenOf slot site task head fifo)
+  unfolding writtenOf lateEnd moveEnd endOf
+  written-rule slot done l =
+      by-test (task .late) (R (Storing slot done)) _ _
+      (λ t. ends-short slot done _ refl l t refl as-late refl)
+      (λ t. finishes slot done refl l t (follow-rule slot site task fifo _ _))
 
   store-rule : (slot done : ℕ)
       → R (Storing slot done) (storeOf slot done site task head fifo efifo fifothr)
-  unfolding storeOf writtenOf putOf
+  unfolding storeOf putOf
   store-rule slot done =
       by-test (leb (sectorBytes site) done) (R (Storing slot done)) _ _
-      (λ t. finishes slot done refl (leb-true _ _ t) (follow-rule slot site task fifo _ _))
+      (λ t. written-rule slot done (leb-true _ _ t))
       (λ t. by-test (eqb (fifo .count) 0) (R (Storing slot done)) _ _
       (λ u. dry-rule slot done (leb-false _ _ t) (eqb-true (fifo .count) 0 u))
       (λ u. puts slot done refl (leb-false _ _ t) (pos-of u) refl))

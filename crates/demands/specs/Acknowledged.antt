@@ -1,11 +1,13 @@
--- What a write command's result says of the disk (01 Result, Write, Next): success is reported exactly when every byte
--- that the host handed over is in a finished sector, and the address says how many sectors are safe.
+-- What a write command's result says of the disk (01 Result, Write, Next; 02 2026-02): success is reported exactly when
+-- TC came and every byte that the host handed over is in a finished sector, and the address says how many sectors are
+-- safe. A short sector is finished and not acknowledged.
 -- Assumes nothing.
 use Prim.Native.Nat.{ℕ, _+_, _-_, _*_, _<_, _≤_}
-use mathlib.Core.Bool.{true, false}
+use mathlib.Core.Bool.{true, false, _||_, cond}
 use mathlib.Core.List.{List}
 use mathlib.Core.Logic.{_⊎_}
 use mathlib.Core.Path.{_≡_}
+use lib.Dec.{leb}
 use lib.ListN.{length, getD}
 use Rattle.sectors.specs.declared.order.Order.{Order}
 use Rattle.sectors.specs.declared.order.Transfer.{Transfer}
@@ -45,11 +47,16 @@ pub record UpToEot (g : Geometry) (transfer : Transfer) (aim : Aim) (h : History
   pub last : (k : ℕ) → k + 1 ≡ doneCount h → aimNo transfer aim k .id .r ≡ transfer .eot
   pub whole : doneCount h * passing g ≤ length (h .host)
 
+-- the number of the sector whose address the result gives: the first one that is not finished, or the last one
+-- finished if it is short: TC did not come, and the host's bytes do not fill it
+abbrev pub shownNumber : Geometry → History → ℕ
+shownNumber g h =
+    cond (h .told || leb (doneCount h * passing g) (length (h .host))) (doneCount h) (doneCount h - 1)
+
 -- what ST0, ST1, ST2 and the address say
 pub record Acknowledges (g : Geometry) (transfer : Transfer) (aim : Aim) (h : History) (st0 st1 st2 : ℕ) (id : Id) : Type 0
   where
-    -- at every end the address is that of the command's first sector that is not finished
-    pub address : id ≡ aimNo transfer aim (doneCount h) .id
+    pub address : id ≡ aimNo transfer aim (shownNumber g h) .id
     -- IC 00 exactly when all is safe
     pub normal : st0 < 0x40 → AllSafe g h
     pub safe : AllSafe g h → st0 < 0x40
@@ -58,8 +65,10 @@ pub record Acknowledges (g : Geometry) (transfer : Transfer) (aim : Aim) (h : Hi
     pub no-more : 0 < doneCount h → (doneCount h - 1) * passing g < length (h .host)
     -- ST1 80: all of them up to EOT; what else was handed over is dropped
     pub past-eot : st1 ≡ 0x80 → UpToEot g transfer aim h
-    -- a begun sector is left only with ST1 10 or 01
-    pub broken : (at : ℕ) (bytes : List ℕ) → h .begun ≡ some-of at bytes → (st1 ≡ 0x10) ⊎ (st1 ≡ 0x01)
+    -- a finished sector that is short: ST1 10 alone, also at EOT
+    pub short : h .told ≡ false → length (h .host) < doneCount h * passing g → (st1 ≡ 0x10) × (st2 ≡ 0x00)
+    -- a begun sector is left only with ST1 01 or, after a missing byte, 11
+    pub broken : (at : ℕ) (bytes : List ℕ) → h .begun ≡ some-of at bytes → (st1 ≡ 0x01) ⊎ (st1 ≡ 0x11)
 
 -- after its calls the result waits with INT on
 abbrev pub Acknowledged : (Controller → Type 0) → Type 0

@@ -1,13 +1,16 @@
 -- Served in time (01 Read, Write, Format: ST1 10; 01 FIFO and request). A byte is late by document 01's own causes,
 -- and by no other; a host that serves each request before the next tick is never late.
 -- Assumes nothing.
-use Prim.Native.Nat.{_<_, _≤_}
+use Prim.Native.Nat.{ℕ, _/_, _%_, _<_, _≤_}
 use mathlib.Core.Bool.{Bool, true, false}
 use mathlib.Core.List.{List, [], _∷_}
+use mathlib.Core.Logic.{_⊎_}
 use mathlib.Core.Path.{_≡_}
+use lib.Dec.{eqb}
 use Rattle.chip.specs.declared.fifo.Fifo.{Fifo}
 use Rattle.chip.specs.Fifo.{fullOf}
 use Rattle.image.specs.declared.slot.Id.{Id}
+use Rattle.image.specs.Lent.{pickOf}
 use Rattle.sectors.specs.declared.order.Job.the-variants.{Move}
 use Rattle.sectors.specs.declared.order.Order.{Order}
 use Rattle.sectors.specs.declared.order.Transfer.{Transfer}
@@ -19,10 +22,12 @@ use Rattle.sectors.specs.declared.work.Stage.the-variants.{Searching, Turning, 
 use Rattle.sectors.specs.declared.work.Task.{Task}
 use Rattle.sectors.specs.declared.work.Work.{Work}
 use Rattle.sectors.specs.declared.work.Work.the-variants.{Identifying, Moving, Formatting}
-use Rattle.sectors.specs.Track.{passBytes}
+use Rattle.sectors.specs.Track.{passBytes, staysOf}
+use Rattle.engine.specs.Step.{siteOf, driveOf}
 use Rattle.fdc.specs.declared.record.Controller.{Controller}
 use Rattle.fdc.specs.declared.record.Phase.{Phase}
 use Rattle.fdc.specs.declared.record.Phase.the-variants.{Idle, Gathering, Starting, Working, Sensing, Answering}
+use Rattle.fdc.specs.Ticks.{seenOf}
 use Rattle.reached.specs.Runs.{Call, powers, reads, writes, takes, gives, ticks, notes, after, runCalls}
 use Rattle.demands.specs.Acknowledged.{resultByte}
 use Rattle.demands.specs.Work.{atWork, Its}
@@ -97,9 +102,45 @@ PromptInTime From =
     (c : Controller) → From c → (order : Order) (transfer : Transfer) (id : Id) → Transfers c order transfer id
     → (calls : List Call) → Prompt calls c → InTime calls c
 
--- in time, no transfer ends with ST1 10, whoever changes the image
+-- ST1's bit 10
+abbrev pub lateIn : ℕ → Bool
+lateIn st1 = eqb (st1 / 0x10 % 2) 1
+
+-- in time, no transfer ends with ST1's bit 10, whoever changes the image
 abbrev pub NeverLate : (Controller → Type 0) → Type 0
 NeverLate From =
     (c : Controller) → From c → (order : Order) (transfer : Transfer) (id : Id) → Transfers c order transfer id
     → (calls : List Call) → Its calls c → InTime calls c → runCalls calls c .phase ≡ Answering true
-    → resultByte 1 (runCalls calls c) ≡ 0x10 → ⊥
+    → lateIn (resultByte 1 (runCalls calls c)) ≡ false
+
+-- the disk in the drive is the one that the command's first tick met
+abbrev pub Finds : List ℕ → List ℕ → Controller → Phase → Type 0
+Finds a b c Idle = ⊥
+Finds a b c (Gathering entry) = ⊥
+Finds a b c (Starting order) = ⊥
+Finds a b c (Working work) =
+    staysOf (seenOf (c .registers .dor) (driveOf work) (pickOf (driveOf work) a b)) (siteOf work .disk) ≡ true
+Finds a b c (Sensing unit) = ⊥
+Finds a b c (Answering loud) = ⊥
+
+-- a tick that finds its disk, and a byte late
+abbrev pub FindsLate : Call → Controller → Type 0
+FindsLate (powers head0 head1) c = ⊥
+FindsLate (reads offset) c = ⊥
+FindsLate (writes offset byte) c = ⊥
+FindsLate (takes tc) c = ⊥
+FindsLate (gives byte tc) c = ⊥
+FindsLate (ticks a b) c = Finds a b c (c .phase) × LatePhase (c .registers .efifo) (c .fifo) (c .phase)
+FindsLate (notes drive) c = ⊥
+
+-- there is one among the calls
+unfoldable pub SomeLate : List Call → Controller → Type 0
+SomeLate [] c = ⊥
+SomeLate (call ∷ calls) c = FindsLate call c ⊎ SomeLate calls (after call c)
+
+-- and then a transfer ends with ST1's bit 10, whoever changes the image
+abbrev pub LateTold : (Controller → Type 0) → Type 0
+LateTold From =
+    (c : Controller) → From c → (order : Order) (transfer : Transfer) (id : Id) → Transfers c order transfer id
+    → (calls : List Call) → Its calls c → SomeLate calls c → runCalls calls c .phase ≡ Answering true
+    → lateIn (resultByte 1 (runCalls calls c)) ≡ true

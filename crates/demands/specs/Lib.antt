@@ -17,6 +17,7 @@ pub mod Quiet
 pub mod ReadIdGives
 pub mod ReadSucceeds
 pub mod RoundTrip
+pub mod ShortSave
 pub mod StaysSound
 pub mod Succeeds
 pub mod Work

@@ -5,6 +5,7 @@
 use Prim.Native.Nat.{ℕ, zero, suc, _+_, _*_, _<_, _≤_}
 use mathlib.Core.Bool.{Bool, true, false, cond}
 use mathlib.Core.List.{List, [], _∷_}
+use mathlib.Core.Logic.{_⊎_}
 use mathlib.Core.Path.{_≡_}
 use lib.Dec.{eqb}
 use lib.ListN.{length, getD}
@@ -91,6 +92,33 @@ pub record HalfDone (g : Geometry) (deleted : Bool) (old img host : List ℕ) (n
   pub new-bytes : (i : ℕ) → i < done → getD img (at + 5 + i) 0 ≡ getD host (n * passing g + i) 0
   pub old-bytes : (i : ℕ) → done ≤ i → i < sizeOf (g .n) → getD img (at + 5 + i) 0 ≡ getD old (at + 5 + i) 0
 
+-- how many bytes were stored
+abbrev pub begunBytes : Begun → ℕ
+begunBytes no-one = 0
+begunBytes (some-of at bytes) = length bytes
+
+-- a sector begun counts as one
+abbrev pub begunOnes : Begun → ℕ
+begunOnes no-one = 0
+begunOnes (some-of at bytes) = 1
+
+-- the data bytes stored so far
+abbrev pub storedCount : Geometry → History → ℕ
+storedCount g h = length (h .finished) * passing g + begunBytes (h .begun)
+
+-- the sectors finished or begun
+abbrev pub sectorCount : History → ℕ
+sectorCount h = length (h .finished) + begunOnes (h .begun)
+
+-- 02 2026-02: a byte is missing: more data bytes are stored than the host handed over, and TC has not come
+pub record Missing (g : Geometry) (h : History) : Type 0 where
+  pub beyond : length (h .host) < storedCount g h
+  pub untold : h .told ≡ false
+
+-- a sector that is not full of the host's bytes is the last one
+abbrev pub LastShort : Geometry → History → Type 0
+LastShort g h = (k : ℕ) → k < sectorCount h → length (h .host) < (k + 1) * passing g → k + 1 ≡ sectorCount h
+
 -- place i is neither the mark of the sector there nor one of its stored bytes
 abbrev pub Spares : ℕ → ℕ → ℕ → Type 0
 Spares at done i = (i ≡ at → ⊥) × (at + 5 ≤ i → i < at + 5 + done → ⊥)
@@ -111,16 +139,6 @@ module _ (g : Geometry) (cylinder : ℕ) (transfer : Transfer) (aim : Aim) (old 
       Stands g old cylinder (aimNo transfer aim n) at
       × HalfDone g (transfer .deleted) old img host n at (length bytes)
 
--- how many bytes were stored
-abbrev pub begunBytes : Begun → ℕ
-begunBytes no-one = 0
-begunBytes (some-of at bytes) = length bytes
-
--- a sector begun counts as one
-abbrev pub begunOnes : Begun → ℕ
-begunOnes no-one = 0
-begunOnes (some-of at bytes) = 1
-
 abbrev pub SparesAll : List Sector → ℕ → Type 0
 SparesAll [] i = Unit {0}
 SparesAll (s ∷ before) i = Spares (s .at) (length (s .bytes)) i × SparesAll before i
@@ -134,13 +152,12 @@ pub record LeftBy (g : Geometry) (cylinder : ℕ) (transfer : Transfer) (aim : A
     : Type 0 where
   pub finished : AllFinished g cylinder transfer aim old img (h .host) (h .finished)
   pub begun : BegunHalf g cylinder transfer aim old img (h .host) (length (h .finished)) (h .begun)
-  -- the zeros past the host's bytes came only after TC
-  pub ran-out : length (h .host) < length (h .finished) * passing g + begunBytes (h .begun) → h .told ≡ true
+  -- zeros past the host's bytes come after TC, or in the command's last sector (02 2026-02, `ShortIsLast`)
+  pub ran-out : length (h .host) < storedCount g h → (h .told ≡ true) ⊎ LastShort g h
   -- a sector, number k, is begun or finished only with a host byte of its own
-  pub fed : (k : ℕ) → k < length (h .finished) + begunOnes (h .begun) → k * passing g < length (h .host)
+  pub fed : (k : ℕ) → k < sectorCount h → k * passing g < length (h .host)
   -- and none past EOT
-  pub no-further : (k : ℕ) → k + 1 < length (h .finished) + begunOnes (h .begun)
-      → Followed transfer (aimNo transfer aim k)
+  pub no-further : (k : ℕ) → k + 1 < sectorCount h → Followed transfer (aimNo transfer aim k)
   -- every other byte is as it was
   pub others : (i : ℕ) → SparesAll (h .finished) i → SparesBegun (h .begun) i → getD img i 0 ≡ getD old i 0
   -- so are the addresses of all slots, and the length

@@ -26,7 +26,7 @@ use Rattle.sectors.specs.declared.work.Work.{Work}
 use Rattle.sectors.specs.declared.work.Work.the-variants.{Identifying, Moving, Formatting}
 use Rattle.sectors.specs.Follow.{followedOf, followOf}
 use Rattle.engine.specs.ReadId.{noAddress}
-use Rattle.sectors.specs.Result.{endOf, moveEnd, moveFails}
+use Rattle.sectors.specs.Result.{endOf, moveEnd}
 use Rattle.sectors.specs.Track.{dataPlace, sectorBytes}
 use Rattle.sectors.specs.Write.{underrun, putOf, dryOf, storeOf}
 
@@ -83,25 +83,21 @@ abbrev placeOr : ℕ → Effect → ℕ
 placeOr at Nothing = at
 placeOr at (Store place byte) = place
 
--- 01 Easy 4: before the last byte is stored, a tick of a Write stores that byte or nothing, and no mark
+-- 01 Easy 4: before the last byte is stored, a tick of a Write stores that byte and no mark
 module _ (slot done : ℕ) (site : Site) (task : Task) (head : ℕ) (fifo : Fifo) (efifo : Bool) (fifothr : ℕ) where
   abbrev pub There : Step → Type 0
   There s = placeOr (dataPlace site head slot done) (s .effect) ≡ dataPlace site head slot done
 
-  fails-there : There (moveFails 0x10 0x00 site task)
-  unfolding moveFails moveEnd endOf
-  fails-there = refl
-
-  put-there : (byte : ℕ) (f : Fifo) → There (putOf byte slot done site task head f)
+  put-there : (byte : ℕ) (t : Task) (f : Fifo) → There (putOf byte slot done site t head f)
   unfolding putOf
-  put-there byte f = refl
+  put-there byte t f = refl
 
   dry-there : There (dryOf slot done site task head fifo)
   unfolding dryOf underrun
-  dry-there = by-test (fifo .tc) There _ _ (λ t. put-there 0 fifo) (λ t. fails-there)
+  dry-there = by-test (fifo .tc) There _ _ (λ t. put-there 0 task fifo) (λ t. put-there 0 _ _)
 
   pub store-data-before-mark : done < sectorBytes site → There (storeOf slot done site task head fifo efifo fifothr)
   unfolding storeOf
   store-data-before-mark h =
       rw (lt-leb (sectorBytes site) done h)
-      (by-test (eqb (fifo .count) 0) There _ _ (λ t. dry-there) (λ t. put-there _ _))
+      (by-test (eqb (fifo .count) 0) There _ _ (λ t. dry-there) (λ t. put-there _ task _))

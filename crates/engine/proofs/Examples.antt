@@ -15,6 +15,7 @@ engine-examples = record {
   ex10-258-bytes = refl;
   wait-63 = refl;
   wait-64 = refl;
+  overrun-runs-on = refl;
   overrun = refl;
   no-such-sector = refl;
   other-cylinder = refl;

@@ -19,8 +19,8 @@ use Rattle.image.specs.Layout.{offsetOf, trackAt}
 use Rattle.chip.specs.declared.fifo.Fifo.{Fifo}
 use Rattle.chip.specs.declared.next.Next.{Next}
 use Rattle.chip.specs.declared.next.Next.the-variants.{Ended, PastEot, OtherSide, SameSide}
-use Rattle.chip.specs.Fifo.{FitsFifo, emptied, fullOf, openedOf}
-use Rattle.chip.proofs.FifoLaws.{fits-emptied, fits-filled, fits-drawn, fits-opened}
+use Rattle.chip.specs.Fifo.{FitsFifo, emptied, fullOf, openedOf, shut}
+use Rattle.chip.proofs.FifoLaws.{fits-emptied, fits-filled, fits-drawn, fits-opened, fits-shut}
 use Rattle.engine.specs.declared.first.Gate.{Gate}
 use Rattle.engine.specs.declared.first.Gate.the-variants.{Shut, Open}
 use Rattle.engine.specs.declared.flow.Flow.{Flow}
@@ -52,7 +52,7 @@ use Rattle.engine.specs.Format.{formatEnd, formsOf, formWait, formAwait,
 use Rattle.engine.specs.Kept.{suits, suited, jobFlow, thenWait, thenFlow, thenDrive, thenFifo, storePlace, Kept}
 use Rattle.sectors.specs.Read.{overrun, sectorOver, readOn, readOf, drainedOf, drainOf}
 use Rattle.engine.specs.ReadId.{noIdOf, noIdHere, idHere, identifiedOf, identifyOf}
-use Rattle.sectors.specs.Result.{endOf, moveEnd, moveFails, movesOf}
+use Rattle.sectors.specs.Result.{endOf, lateEnd, moveEnd, moveFails, movesOf, tardy}
 use Rattle.sectors.specs.Search.{matches, secondPass, notFound, missedOf, withOther, readFound, dataFound, bareFound, lookedOf, searchOf}
 use Rattle.engine.specs.Step.{lostOf, stageOf, workStep, goOnOf, siteOf, passFlow, fromHost, flowOf, waitOf, driveOf, stageWait}
 use Rattle.sectors.specs.Track.{hasTrack, staysOf, sectorBytes, dataPlace, markPlace}
@@ -101,11 +101,19 @@ module _ (efifo : Bool) (f : Fifo) (ok : Bool) where
         → 13 ≤ storePlace effect
         → Moved site task (moveEnd normal st1 st2 id effect site task)
     unfolding moveEnd
-    move-end-kept normal st1 st2 id effect h b = end-kept _ _ normal _ _ st1 _ id effect h b
+    move-end-kept normal st1 st2 id effect h b = end-kept _ _ normal _ _ _ _ id effect h b
 
     fails-kept : (st1 st2 : ℕ) → Moved site task (moveFails st1 st2 site task)
     unfolding moveFails
     fails-kept st1 st2 = move-end-kept false st1 st2 (task .id) Nothing (λ o h. refl) (omega arith)
+
+    -- 02 2026-02
+    late-end-kept : (effect : Effect)
+        → (ok ≡ true → fromHost (passFlow (task .transfer .pass)) ≡ false → effect ≡ Nothing)
+        → 13 ≤ storePlace effect
+        → Moved site task (lateEnd effect site task)
+    unfolding lateEnd moveEnd
+    late-end-kept effect h b = end-kept _ _ false _ _ _ _ (task .id) effect h b
 
     moves-kept : (stage : Stage) (fifo : Fifo) (effect : Effect)
         → stageWait stage ≤ 63
@@ -235,15 +243,26 @@ module _ (efifo : Bool) (f : Fifo) (ok : Bool) where
         (λ t. moves-kept site task (Reading sector (done + 1)) fifo Nothing (omega arith) s p (λ o h. refl)
         (omega arith))
 
+    overrun-kept : (sector : Sector) (done : ℕ)
+        → (ok ≡ true → not (passWrites (task .transfer .pass)) ≡ true)
+        → Moved site task (overrun sector done site task)
+    unfolding overrun readOn
+    overrun-kept sector done s =
+        by-test (sectorOver site done) (Moved site task) _ _
+        (λ t. moves-kept site (tardy task) (Draining sector 0) shut Nothing (omega arith) s (λ p. fits-shut efifo)
+        (λ o h. refl) (omega arith))
+        (λ t. moves-kept site (tardy task) (Reading sector (done + 1)) shut Nothing (omega arith) s
+        (λ p. fits-shut efifo) (λ o h. refl) (omega arith))
+
     read-kept : (sector : Sector) (done head : ℕ) (img : List ℕ) (fifothr : ℕ)
         → (ok ≡ true → not (passWrites (task .transfer .pass)) ≡ true)
         → Moved site task (readOf sector done site task head img f efifo fifothr)
-    unfolding readOf overrun
+    unfolding readOf
     read-kept sector done head img fifothr s =
         by-test (f .tc) (Moved site task) _ _
         (λ t. read-on-kept sector done f s (λ p. p))
         (λ t. by-test (fullOf efifo f) (Moved site task) _ _
-        (λ u. fails-kept site task 0x10 0)
+        (λ u. overrun-kept sector done s)
         (λ u. read-on-kept sector done _ s (λ p. fits-filled efifo fifothr _ _ f p)))
 
     drained-kept : (sector : Sector) → Moved site task (drainedOf sector site task f)
@@ -251,9 +270,11 @@ module _ (efifo : Bool) (f : Fifo) (ok : Bool) where
     drained-kept sector =
         by-test (sector .broken) (Moved site task) _ _
         (λ t. fails-kept site task 0x20 0x20)
-        (λ t. by-test (sector .other) (Moved site task) _ _
+        (λ t. by-test (task .late) (Moved site task) _ _
+        (λ l. late-end-kept site task Nothing (λ o h. refl) (omega arith))
+        (λ l. by-test (sector .other) (Moved site task) _ _
         (λ u. move-end-kept site task true 0 0 (task .id) Nothing (λ o h. refl) (omega arith))
-        (λ u. follow-kept site task (sector .slot) (f .tc) f Nothing (λ p. p) (λ o h. refl) (omega arith)))
+        (λ u. follow-kept site task (sector .slot) (f .tc) f Nothing (λ p. p) (λ o h. refl) (omega arith))))
 
     drain-kept : (sector : Sector) (looks : ℕ) → (ok ≡ true → not (passWrites (task .transfer .pass)) ≡ true)
         → Moved site task (drainOf sector looks site task f)
@@ -262,7 +283,7 @@ module _ (efifo : Bool) (f : Fifo) (ok : Bool) where
         by-test (eqb (f .count) 0) (Moved site task) _ _
         (λ t. drained-kept sector)
         (λ t. by-test (leb 63 looks) (Moved site task) _ _
-        (λ u. fails-kept site task 0x10 0)
+        (λ u. late-end-kept site task Nothing (λ o h. refl) (omega arith))
         (λ u. moves-kept site task (Draining sector (looks + 1)) f Nothing
         (omega (arith, leb-false 63 looks u)) s (λ p. p) (λ o h. refl) (omega arith)))
 
@@ -273,7 +294,7 @@ module _ (efifo : Bool) (f : Fifo) (ok : Bool) where
     await-kept slot wait head s =
         by-test (eqb (f .count) 0) (Moved site task) _ _
         (λ t. by-test (leb 63 wait) (Moved site task) _ _
-        (λ u. fails-kept site task 0x10 0)
+        (λ u. late-end-kept site task Nothing (λ o h. refl) (omega arith))
         (λ u. moves-kept site task (Awaiting slot (wait + 1)) f Nothing
         (omega (arith, leb-false 63 wait u)) s (λ p. p) (λ o h. refl) (omega arith)))
         (λ t. moves-kept site task (Storing slot 0) f _ (omega arith) s (λ p. p)
@@ -289,16 +310,20 @@ module _ (efifo : Bool) (f : Fifo) (ok : Bool) where
 
     dry-kept : (slot done head : ℕ) → (ok ≡ true → passWrites (task .transfer .pass) ≡ true)
         → Moved site task (dryOf slot done site task head f)
-    unfolding dryOf underrun
+    unfolding dryOf underrun putOf
     dry-kept slot done head s =
         by-test (f .tc) (Moved site task) _ _ (λ t. put-kept 0 slot done head f s (λ p. p))
-        (λ t. fails-kept site task 0x10 0)
+        (λ t. moves-kept site (tardy task) (Storing slot (done + 1)) shut _ (omega arith) s (λ p. fits-shut efifo)
+        (λ o. may-store (task .transfer .pass) _ (s o)) (data-behind site head slot done))
 
     written-kept : (slot head : ℕ) → (ok ≡ true → passWrites (task .transfer .pass) ≡ true)
         → Moved site task (writtenOf slot site task head f)
     unfolding writtenOf
-    written-kept slot head s = follow-kept site task slot _ f _ (λ p. p)
-        (λ o. may-store (task .transfer .pass) _ (s o)) (mark-behind site head slot)
+    written-kept slot head s =
+        by-test (task .late) (Moved site task) _ _
+        (λ t. late-end-kept site task _ (λ o. may-store (task .transfer .pass) _ (s o)) (mark-behind site head slot))
+        (λ t. follow-kept site task slot _ f _ (λ p. p)
+        (λ o. may-store (task .transfer .pass) _ (s o)) (mark-behind site head slot))
 
     store-kept : (slot done head fifothr : ℕ) → (ok ≡ true → passWrites (task .transfer .pass) ≡ true)
         → Moved site task (storeOf slot done site task head f efifo fifothr)

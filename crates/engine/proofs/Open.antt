@@ -8,7 +8,7 @@ use Rattle.chip.specs.Fifo.{filledOf, takenOf, openedOf, givenOf, drawnOf}
 use Rattle.chip.specs.Next.{advancedOf, nextOf}
 use Rattle.sectors.specs.Follow.{followedOf, followOf, turnOf}
 use Rattle.sectors.specs.Read.{overrun, readOn, readOf, drainedOf, drainOf}
-use Rattle.sectors.specs.Result.{endOf, moveEnd, moveFails}
+use Rattle.sectors.specs.Result.{endOf, lateEnd, moveEnd, moveFails}
 use Rattle.sectors.specs.Search.{notFound, missedOf, readFound, dataFound, bareFound, lookedOf, searchOf}
 use Rattle.sectors.specs.Track.{hasTrack, staysOf, markPlace, dataPlace}
 use Rattle.sectors.specs.Write.{underrun, awaitOf, putOf, dryOf, writtenOf, storeOf}
@@ -21,7 +21,7 @@ use Rattle.engine.specs.Step.{lostOf, stageOf, workStep, goOnOf}
 unfoldable pub engineOpen : Unit {0}
 unfolding headerIn geometryIn diskIn sizeOf trackLength lengthOf trackAt offsetOf sameOf markOf filledOf takenOf
     openedOf givenOf drawnOf advancedOf nextOf followedOf followOf turnOf overrun readOn readOf drainedOf drainOf
-    endOf moveEnd moveFails notFound missedOf readFound dataFound bareFound lookedOf searchOf hasTrack staysOf
+    endOf lateEnd moveEnd moveFails notFound missedOf readFound dataFound bareFound lookedOf searchOf hasTrack staysOf
     markPlace dataPlace underrun awaitOf putOf dryOf writtenOf storeOf gateOf givenId movingOf startJob enteredOf
     beginOf formatEnd formAwait addressPut addressOf clearOn formedOf fillOf clearOf formOf noIdOf noIdHere idHere
     identifiedOf identifyOf lostOf stageOf workStep goOnOf

@@ -23,7 +23,7 @@ use Rattle.sectors.specs.declared.work.Then.{Then}
 use Rattle.sectors.specs.declared.work.Then.the-variants.{Ends, Works}
 use Rattle.engine.specs.First.{beginOf}
 use Rattle.engine.specs.Step.{goOnOf}
-use Rattle.engine.specs.Kept.{thenWait}
+use Rattle.engine.specs.Kept.{thenWait, thenDrive}
 
 -- an address with N 1
 abbrev pub chrnOf : ℕ → ℕ → ℕ → Id
@@ -81,8 +81,10 @@ pub record EngineExamples : Type 0 where
   -- 01 Write: the 64th tick without a byte, and not the 63rd, ends with ST1 10
   pub wait-63 : thenWait (ran false 64 (begun (moveOf Write (chrnOf 0 0 1))) .then) ≡ 63
   pub wait-64 : ran false 65 (begun (moveOf Write (chrnOf 0 0 1))) .then ≡ ended 0x40 0x10 0x00 (chrnOf 0 0 1)
-  -- 01 Read: FIFO full, ST1 10: the look that matches, one byte, and the tick that has the second
-  pub overrun : ran false 3 (begun (moveOf Read (chrnOf 0 0 1))) .then ≡ ended 0x40 0x10 0x00 (chrnOf 0 0 1)
+  -- 02 2026-02: FIFO full, ST1 10: the look that matches, the sector's 256 bytes, of which one is held and the tick
+  -- that has the second empties the FIFO, and one look, before which it is at work on drive 0
+  pub overrun-runs-on : thenDrive 9 (ran false 257 (begun (moveOf Read (chrnOf 0 0 1))) .then) ≡ 0
+  pub overrun : ran false 258 (begun (moveOf Read (chrnOf 0 0 1))) .then ≡ ended 0x40 0x10 0x00 (chrnOf 0 0 1)
   -- 01 Search: IDs met but not that one, at the second pass; another C below FF
   pub no-such-sector : ran false 4 (begun (moveOf Read (chrnOf 0 0 3))) .then ≡ ended 0x40 0x04 0x00 (chrnOf 0 0 3)
   pub other-cylinder : ran false 4 (begun (moveOf Read (chrnOf 5 0 1))) .then ≡ ended 0x40 0x04 0x10 (chrnOf 5 0 1)

@@ -62,7 +62,7 @@ givenId (Move transfer id) drive side head = id
 givenId (Format plan) drive side head = formatId plan drive head side 0
 
 abbrev pub taskOf : Transfer → Id → Task
-taskOf transfer id = record { transfer = transfer; id = id; other = false }
+taskOf transfer id = record { transfer = transfer; id = id; other = false; late = false }
 
 -- 01 FIFO: from host on once the first tests pass. A command's first search starts at slot 0 (D-102)
 unfoldable pub movingOf : Pass → Transfer → Id → Site → Fifo → Step

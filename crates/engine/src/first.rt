@@ -125,6 +125,7 @@ fn task_of(transfer: Transfer, id: Id) -> Task
         transfer,
         id,
         other: false,
+        late: false,
     }
 }
 

@@ -20,7 +20,7 @@ use Rattle.image.specs.declared.slot.Id.{Id}
 use Rattle.chip.specs.declared.fifo.Fifo.{Fifo}
 use Rattle.chip.specs.declared.next.Next.{Next}
 use Rattle.chip.specs.declared.next.Next.the-variants.{Ended, PastEot, OtherSide, SameSide}
-use Rattle.chip.specs.Fifo.{capacityOf, emptied, fullOf, poppedOf, filledOf, takenOf, openedOf, givenOf, drawnOf}
+use Rattle.chip.specs.Fifo.{capacityOf, emptied, fullOf, poppedOf, filledOf, takenOf, openedOf, givenOf, drawnOf, shut}
 use Rattle.sectors.specs.declared.order.Job.{Job}
 use Rattle.sectors.specs.declared.order.Job.the-variants.{Identify, Move, Format}
 use Rattle.sectors.specs.declared.order.Order.{Order}
@@ -44,7 +44,7 @@ use Rattle.sectors.specs.declared.work.Work.{Work}
 use Rattle.sectors.specs.declared.work.Work.the-variants.{Identifying, Moving, Formatting}
 use Rattle.sectors.specs.Follow.{followedOf, followOf, turnOf}
 use Rattle.sectors.specs.Read.{overrun, sectorOver, readOn, readOf, drainedOf, drainOf}
-use Rattle.sectors.specs.Result.{endOf, moveEnd, moveFails}
+use Rattle.sectors.specs.Result.{endOf, lateEnd, moveEnd, moveFails}
 use Rattle.sectors.specs.Search.{matches, secondPass, notFound, missedOf, readFound, dataFound, bareFound, lookedOf}
 use Rattle.sectors.specs.Search.{searchOf}
 use Rattle.sectors.specs.Track.{hasTrack, staysOf, sectorBytes}
@@ -65,6 +65,9 @@ room-same efifo f = record { sixteen = λ h. h; within = λ h. h }
 
 pub room-emptied : (efifo : Bool) (f : Fifo) → Room efifo f emptied
 room-emptied efifo f = record { sixteen = λ h. refl; within = λ h. omega arith }
+
+room-shut : (efifo : Bool) (f : Fifo) → Room efifo f shut
+room-shut efifo f = record { sixteen = λ h. refl; within = λ h. omega arith }
 
 room-popped : (efifo : Bool) (f : Fifo) → Room efifo f (poppedOf f)
 room-popped efifo f =
@@ -99,7 +102,7 @@ room-flagged efifo f g asks tc r = record { sixteen = r .sixteen; within = r .wi
 pub room-taken : (efifo tc : Bool) (f : Fifo) → Room efifo f (takenOf tc f)
 unfolding takenOf
 room-taken efifo tc f =
-    by-test tc (Room efifo f) _ _ (λ t. room-flagged efifo f _ _ _ (room-emptied efifo f))
+    by-test tc (Room efifo f) _ _ (λ t. room-shut efifo f)
     (λ t. room-flagged efifo f _ _ _ (room-popped efifo f))
 
 room-drawn : (efifo : Bool) (fifothr : ℕ) (f : Fifo) → Room efifo f (drawnOf efifo fifothr f)
@@ -132,7 +135,11 @@ module _ (efifo : Bool) (f : Fifo) where
     move-end-fine : (normal : Bool) (st1 st2 : ℕ) (id : Id) (effect : Effect)
         → Ok (moveEnd normal st1 st2 id effect site task)
     unfolding moveEnd
-    move-end-fine normal st1 st2 id effect = end-fine normal _ _ st1 _ id effect
+    move-end-fine normal st1 st2 id effect = end-fine normal _ _ _ _ id effect
+
+    late-end-fine : (effect : Effect) → Ok (lateEnd effect site task)
+    unfolding lateEnd moveEnd
+    late-end-fine effect = end-fine false _ _ _ _ _ effect
 
     fails-fine : (st1 st2 : ℕ) → Ok (moveFails st1 st2 site task)
     unfolding moveFails
@@ -170,6 +177,17 @@ module _ (efifo : Bool) (f : Fifo) where
     bare-found-fine Write slot = record { room = room-same efifo f; done = omega arith }
 
   module _ (site : Site) (task : Task) where
+    read-on-fine : (sector : Sector) (done : ℕ) (fifo : Fifo) → Room efifo f fifo
+        → Ok (readOn sector done site task fifo)
+    unfolding readOn
+    read-on-fine sector done fifo r =
+        by-test (sectorOver site done) Ok _ _ (λ t. record { room = r; done = omega arith })
+        (λ t. record {
+          room = r;
+          done = omega (arith, leb-false (sectorBytes site) (done + 1) t, size-le (site .disk .n));
+        })
+
+  module _ (site : Site) (task : Task) where
     read-found-fine : (other broken : Bool) (slot : ℕ) → Ok (readFound other broken slot site task f)
     unfolding readFound
     read-found-fine other broken slot =
@@ -197,39 +215,30 @@ module _ (efifo : Bool) (f : Fifo) where
     unfolding searchOf
     search-fine look head img = looked-fine _ _ look
 
-    read-on-fine : (sector : Sector) (done : ℕ) (fifo : Fifo) → Room efifo f fifo
-        → Ok (readOn sector done site task fifo)
-    unfolding readOn
-    read-on-fine sector done fifo r =
-        by-test (sectorOver site done) Ok _ _ (λ t. record { room = r; done = omega arith })
-        (λ t. record {
-          room = r;
-          done = omega (arith, leb-false (sectorBytes site) (done + 1) t, size-le (site .disk .n));
-        })
-
     read-fine : (sector : Sector) (done head : ℕ) (img : List ℕ) (fifothr : ℕ)
         → Ok (readOf sector done site task head img f efifo fifothr)
     unfolding readOf overrun
     read-fine sector done head img fifothr =
-        by-test (f .tc) Ok _ _ (λ t. read-on-fine sector done f (room-same efifo f))
-        (λ t. by-test (fullOf efifo f) Ok _ _ (λ u. fails-fine site task 0x10 0)
-        (λ u. read-on-fine sector done _ (room-filled efifo fifothr _ _ f)))
+        by-test (f .tc) Ok _ _ (λ t. read-on-fine site task sector done f (room-same efifo f))
+        (λ t. by-test (fullOf efifo f) Ok _ _ (λ u. read-on-fine site _ sector done shut (room-shut efifo f))
+        (λ u. read-on-fine site task sector done _ (room-filled efifo fifothr _ _ f)))
 
     drain-fine : (sector : Sector) (looks : ℕ) → Ok (drainOf sector looks site task f)
     unfolding drainOf drainedOf
     drain-fine sector looks =
         by-test (eqb (f .count) 0) Ok _ _
         (λ t. by-test (sector .broken) Ok _ _ (λ u. fails-fine site task 0x20 0x20)
-        (λ u. by-test (sector .other) Ok _ _ (λ v. move-end-fine site task true 0 0 (task .id) Nothing)
-        (λ v. follow-fine site task (sector .slot) (f .tc) f Nothing (room-same efifo f))))
-        (λ t. by-test (leb 63 looks) Ok _ _ (λ u. fails-fine site task 0x10 0)
+        (λ u. by-test (task .late) Ok _ _ (λ w. late-end-fine site task Nothing)
+        (λ w. by-test (sector .other) Ok _ _ (λ v. move-end-fine site task true 0 0 (task .id) Nothing)
+        (λ v. follow-fine site task (sector .slot) (f .tc) f Nothing (room-same efifo f)))))
+        (λ t. by-test (leb 63 looks) Ok _ _ (λ u. late-end-fine site task Nothing)
         (λ u. record { room = room-same efifo f; done = omega arith }))
 
     await-fine : (slot wait head : ℕ) → Ok (awaitOf slot wait site task head f)
     unfolding awaitOf
     await-fine slot wait head =
         by-test (eqb (f .count) 0) Ok _ _
-        (λ t. by-test (leb 63 wait) Ok _ _ (λ u. fails-fine site task 0x10 0)
+        (λ t. by-test (leb 63 wait) Ok _ _ (λ u. late-end-fine site task Nothing)
         (λ u. record { room = room-same efifo f; done = omega arith }))
         (λ t. record { room = room-same efifo f; done = omega arith })
 
@@ -237,12 +246,13 @@ module _ (efifo : Bool) (f : Fifo) where
     unfolding storeOf writtenOf dryOf putOf underrun
     store-fine slot done head fifothr =
         by-test (leb (sectorBytes site) done) Ok _ _
-        (λ t. follow-fine site task slot _ f _ (room-same efifo f))
+        (λ t. by-test (task .late) Ok _ _ (λ w. late-end-fine site task _)
+        (λ w. follow-fine site task slot _ f _ (room-same efifo f)))
         (λ t. let most : done + 1 ≤ 1024 =
         omega (arith, leb-false (sectorBytes site) done t, size-le (site .disk .n)) in
         by-test (eqb (f .count) 0) Ok _ _
         (λ u. by-test (f .tc) Ok _ _ (λ v. record { room = room-same efifo f; done = most })
-        (λ v. fails-fine site task 0x10 0))
+        (λ v. record { room = room-shut efifo f; done = most }))
         (λ u. record { room = room-drawn efifo fifothr f; done = most }))
 
   stage-fine : (stage : Stage) (site : Site) (task : Task) (head : ℕ) (img : List ℕ) (fifothr : ℕ)

@@ -114,6 +114,7 @@ task-back t =
       flag-back (t .transfer .mt),
       flag-back (t .transfer .sk),
       flag-back (t .other),
+      flag-back (t .late),
     )
 
 spot-back : (s : Spot) → s .done < 0x10000 → spotIn (spotBytes s) ≡ s

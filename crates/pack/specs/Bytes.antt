@@ -32,8 +32,8 @@ use Rattle.pack.specs.Places.{busyAt, reportAt, motionAt, targetAt, step
 use Rattle.pack.specs.Places.{gatheredAt, leftAt, tagAt, kindAt, dueAt, unitAt, loudAt, workAt, driveNumberAt}
 use Rattle.pack.specs.Places.{sideAt, cylindersAt, headsAt, slotsAt, diskSizeAt, protectAt, planSizeAt, scAt}
 use Rattle.pack.specs.Places.{fillAt, passAt, deletedAt, mtAt, skAt, eotAt, dtlAt, cAt, hAt, rAt, nAt}
-use Rattle.pack.specs.Places.{taskOtherAt, stageAt, formAt, slotAt, spotCountAt, metAt, wrongAt, badAt}
-use Rattle.pack.specs.Places.{brokenAt, otherAt, doneAt}
+use Rattle.pack.specs.Places.{taskOtherAt, taskLateAt, stageAt, formAt, slotAt, spotCountAt, metAt}
+use Rattle.pack.specs.Places.{wrongAt, badAt, brokenAt, otherAt, doneAt}
 
 abbrev pub bitOf : Bool → ℕ
 bitOf flag = cond flag 1 0
@@ -196,7 +196,7 @@ abbrev pub taskBytes : Task → List ℕ
 taskBytes t =
     passNumber (t .transfer .pass) ∷ bitOf (t .transfer .deleted) ∷ bitOf (t .transfer .mt)
     ∷ bitOf (t .transfer .sk) ∷ t .transfer .eot ∷ t .transfer .dtl ∷ 0 ∷ 0 ∷ t .id .c ∷ t .id .h ∷ t .id .r ∷ t .id .n
-    ∷ bitOf (t .other) ∷ 0 ∷ 0 ∷ 0 ∷ []
+    ∷ bitOf (t .other) ∷ bitOf (t .late) ∷ 0 ∷ 0 ∷ []
 
 abbrev pub taskFrom : List ℕ → Task
 taskFrom row =
@@ -212,6 +212,7 @@ taskFrom row =
           };
       id = record { c = byteAt row cAt; h = byteAt row hAt; r = byteAt row rAt; n = byteAt row nAt };
       other = flagAt row taskOtherAt;
+      late = flagAt row taskLateAt;
     }
 
 -- a stage
@@ -329,7 +330,7 @@ siteOk row = atMost row protectAt 1
 unfoldable pub taskOk : List ℕ → Bool
 taskOk row =
     atMost row passAt 1 && atMost row deletedAt 1 && atMost row mtAt 1 && atMost row skAt 1
-    && atMost row taskOtherAt 1
+    && atMost row taskOtherAt 1 && atMost row taskLateAt 1
 
 unfoldable pub spotOk : List ℕ → Bool
 spotOk row =

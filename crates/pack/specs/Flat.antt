@@ -35,7 +35,7 @@ abbrev pub noTransfer : Transfer
 noTransfer = record { pass = Read; deleted = false; mt = false; sk = false; eot = 0; dtl = 0 }
 
 abbrev pub taskWith : Transfer → Id → Task
-taskWith transfer id = record { transfer = transfer; id = id; other = false }
+taskWith transfer id = record { transfer = transfer; id = id; other = false; late = false }
 
 abbrev pub noTask : Task
 noTask = taskWith noTransfer noId

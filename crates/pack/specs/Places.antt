@@ -206,6 +206,9 @@ nAt = 11
 abbrev pub taskOtherAt : ℕ
 taskOtherAt = 12
 
+abbrev pub taskLateAt : ℕ
+taskLateAt = 13
+
 -- a stage
 abbrev pub stageAt : ℕ
 stageAt = 0

@@ -88,6 +88,7 @@ fn task(transfer: Transfer, id: Id) -> Task
         transfer,
         id,
         other: false,
+        late: false,
     }
 }
 
@@ -112,6 +113,7 @@ fn no_task() -> Task
         transfer,
         id,
         other: false,
+        late: false,
     }
 }
 

@@ -143,6 +143,8 @@ pub const N_AT: usize = 11;
 
 pub const TASK_OTHER_AT: usize = 12;
 
+pub const TASK_LATE_AT: usize = 13;
+
 // A stage.
 pub const STAGE_AT: usize = 0;
 

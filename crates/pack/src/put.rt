@@ -248,6 +248,7 @@ fn task_row(task: Task) -> [u8; 16]
     let mt = bit(transfer.mt);
     let sk = bit(transfer.sk);
     let other = bit(task.other);
+    let late = bit(task.late);
     [
         number,
         deleted,
@@ -262,7 +263,7 @@ fn task_row(task: Task) -> [u8; 16]
         id.r,
         id.n,
         other,
-        0,
+        late,
         0,
         0,
     ]

@@ -67,6 +67,7 @@ use crate::places::SPOT_COUNT_AT;
 use crate::places::SPOT_ROW;
 use crate::places::STAGE_AT;
 use crate::places::TAG_AT;
+use crate::places::TASK_LATE_AT;
 use crate::places::TASK_OTHER_AT;
 use crate::places::TASK_ROW;
 use crate::places::TC_AT;
@@ -230,6 +231,7 @@ fn task_in(row: [u8; 16]) -> Task
         transfer,
         id,
         other: row[TASK_OTHER_AT] == 1,
+        late: row[TASK_LATE_AT] == 1,
     }
 }
 
@@ -372,6 +374,7 @@ fn task_ok(row: [u8; 16]) -> bool
         & (row[MT_AT] <= 1)
         & (row[SK_AT] <= 1)
         & (row[TASK_OTHER_AT] <= 1)
+        & (row[TASK_LATE_AT] <= 1)
 }
 
 fn spot_ok(row: [u8; 16]) -> bool

@@ -130,9 +130,9 @@ pub record Met : Type 0 where
   pub format-accepted : given formatBytes .phase ≡ Starting (ordered (Format (record { n = 1; sc = 1; fill = 0xE5 })))
   pub sense-accepted : given senseBytes .phase ≡ Sensing 0
   pub empty : seenOf (given readBytes .registers .dor) 0 [] ≡ Absent
-  -- not served, the Read ends with ST1 10 at its fourth tick, and not before
-  pub read-on : atWork (runCalls (hosted 3 small (given readBytes)) (given readBytes) .phase) ≡ true
-  pub read-over : runCalls (hosted 4 small (given readBytes)) (given readBytes) .bytes .results
+  -- not served, the Read ends with ST1 10 at its 259th tick, and not before (02 2026-02)
+  pub read-on : atWork (runCalls (unserved 258) (given readBytes) .phase) ≡ true
+  pub read-over : runCalls (unserved 259) (given readBytes) .bytes .results
       ≡ 0x40 ∷ 0x10 ∷ 0x00 ∷ 0 ∷ 0 ∷ 1 ∷ 1 ∷ []
   -- the Read ID has its ID at its second
   pub id-over : runCalls (hosted 2 small (given idBytes)) (given idBytes) .bytes .results

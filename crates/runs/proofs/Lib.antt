@@ -13,6 +13,7 @@ pub mod PromptRuns
 pub mod ReadIdRuns
 pub mod RegisterRuns
 pub mod RowRuns
+pub mod ShortRuns
 pub mod SmallLaws
 pub mod SpinLaws
 pub mod SucceedsExamples

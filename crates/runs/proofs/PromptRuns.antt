@@ -12,13 +12,14 @@ use Rattle.reached.specs.Moves.{tickCount}
 use Rattle.fdc.specs.Registers.{motorIn}
 use Rattle.reached.specs.Runs.{runCalls}
 use Rattle.demands.specs.EndsInTime.{boundOf}
+use Rattle.demands.specs.InTime.{RequestOff}
 use Rattle.demands.specs.Work.{atWork}
 use Rattle.runs.specs.Host.{idle, double}
 use Rattle.runs.specs.PromptRuns.{wrote, wroteEnd, left, back, backEnd, longer, LongRun, PromptRuns}
 use Rattle.runs.specs.Whole.{WholeGiven, WholeOutcome, askedBy, callsOf, Served}
 use Rattle.runs.proofs.Open.{allOpen}
 use Rattle.runs.proofs.SmallLaws.{small-sound}
-use Rattle.runs.proofs.SpinLaws.{dmaTests, dma-spins, off-longer, handing-ticks}
+use Rattle.runs.proofs.SpinLaws.{dmaTests, dma-spins, ticks-longer, handing-ticks}
 use Rattle.runs.proofs.WholeLaws.{
   goes,
   Summary,
@@ -93,7 +94,7 @@ long-run x n served over p dma motor enough =
     record {
       spins = dma-spins (x .order .drive) (longer n x .does) (askedBy x) (x .img) dma motor;
       served =
-          off-longer (x .order .drive) (x .does) (idle n) (askedBy x) (x .img) served (ap atWork over);
+          ticks-longer (x .order .drive) RequestOff (x .does) (idle n) (askedBy x) (x .img) served (ap atWork over);
       alone = alone-in (longer n x) p;
       enough = rw (handing-ticks (x .order .drive) (longer n x .does) (askedBy x) (x .img)) enough;
     }

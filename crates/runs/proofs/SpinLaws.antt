@@ -1,4 +1,5 @@
--- A motor that is on stays on over ticks and DMA cycles (01 Registers DOR), and a run may go on after its command.
+-- A motor that is on stays on over ticks and DMA cycles (01 Registers DOR), which reset nothing, and a run may go on
+-- after its command.
 -- Assumes nothing.
 use Prim.Native.Nat.{ℕ, _+_}
 use mathlib.Core.Bool.{Bool, true, false, _&&_, false≢true, true≢false}
@@ -18,7 +19,7 @@ use Rattle.fdc.specs.Answer.{answerOf}
 use Rattle.fdc.specs.Calls.{dmaRead, dmaWrite}
 use Rattle.fdc.specs.Commands.{answeredOf, saidOf}
 use Rattle.fdc.specs.Data.{phaseToHost, phaseFromHost}
-use Rattle.reached.specs.Moves.{tickOne, tickCount}
+use Rattle.reached.specs.Moves.{AllCalm, tickOne, tickCount}
 use Rattle.fdc.specs.Record.{withDrives, withFifo, withPhase, validOf}
 use Rattle.fdc.specs.Registers.{heldIn, motorIn, drqOf}
 use Rattle.reached.specs.Runs.{Call, powers, reads, writes, takes, gives, ticks, notes, answerTo, after, runCalls}
@@ -26,7 +27,7 @@ use Rattle.fdc.specs.Ticks.{steppedOf, sensedAt, stillOf, settledOf, decidedOf,
 use Rattle.fdc.specs.Ticks.{startTick, workTick, tickOf}
 use Rattle.fdc.proofs.DmaLaws.{dma-read-is, dma-write-is}
 use Rattle.demands.specs.DataError.{Spins}
-use Rattle.demands.specs.InTime.{AtTicks, Prompt}
+use Rattle.demands.specs.InTime.{AtTicks}
 use Rattle.demands.specs.Work.{atWork}
 use Rattle.runs.specs.Whole.{lending, handing}
 
@@ -117,18 +118,31 @@ module _ (drive : ℕ) where
   )
   dma-spins (notes drive′ ∷ calls) c img t m = absurd (false≢true t)
 
-  -- after the command nothing is asked
-  off-over : (calls : List Call) (c : Controller) → atWork (c .phase) ≡ false → Prompt calls c
-  unfolding AtTicks
-  off-over [] c e = tt
-  off-over (call ∷ calls) c e = λ w. absurd (true≢false (sym w ∙ e))
+  pub dma-calm : (calls last : List Call) (c : Controller) (img : List ℕ) → dmaTests calls ≡ true → AllCalm last
+      → AllCalm (handing drive calls c img ++ last)
+  dma-calm [] last c img t calm = calm
+  dma-calm (powers head0 head1 ∷ calls) last c img t calm = absurd (false≢true t)
+  dma-calm (reads offset ∷ calls) last c img t calm = absurd (false≢true t)
+  dma-calm (writes offset byte ∷ calls) last c img t calm = absurd (false≢true t)
+  dma-calm (takes tc ∷ calls) last c img t calm = (tt, dma-calm calls last _ _ t calm)
+  dma-calm (gives byte tc ∷ calls) last c img t calm = (tt, dma-calm calls last _ _ t calm)
+  dma-calm (ticks a b ∷ calls) last c img t calm = (tt, dma-calm calls last _ _ t calm)
+  dma-calm (notes drive′ ∷ calls) last c img t calm = absurd (false≢true t)
 
-  pub off-longer : (calls more : List Call) (c : Controller) (img : List ℕ) → Prompt (handing drive calls c img) c
-      → atWork (runCalls (handing drive calls c img) c .phase) ≡ false → Prompt (handing drive (calls ++ more) c img) c
+  -- after the command nothing is asked
+  ticks-over : (P : Controller → Type 0) (calls : List Call) (c : Controller) → atWork (c .phase) ≡ false
+      → AtTicks P calls c
+  unfolding AtTicks
+  ticks-over P [] c e = tt
+  ticks-over P (call ∷ calls) c e = λ w. absurd (true≢false (sym w ∙ e))
+
+  pub ticks-longer : (P : Controller → Type 0) (calls more : List Call) (c : Controller) (img : List ℕ)
+      → AtTicks P (handing drive calls c img) c → atWork (runCalls (handing drive calls c img) c .phase) ≡ false
+      → AtTicks P (handing drive (calls ++ more) c img) c
   unfolding AtTicks runCalls
-  off-longer [] more c img p e = off-over (handing drive more c img) c e
-  off-longer (call ∷ calls) more c img p e = λ w.
-      (p w .0, off-longer calls more _ _ (p w .1) e)
+  ticks-longer P [] more c img p e = ticks-over P (handing drive more c img) c e
+  ticks-longer P (call ∷ calls) more c img p e = λ w.
+      (p w .0, ticks-longer P calls more _ _ (p w .1) e)
 
   lending-ticks : (img : List ℕ) (call : Call) → tickOne (lending drive img call) ≡ tickOne call
   lending-ticks img (powers head0 head1) = refl

@@ -1,14 +1,21 @@
 -- Premises over a list of calls, by tests that a closed run computes: its numbers are bytes, it is the command's, each
--- tick finds the request off.
+-- tick finds the request off, or is not the 64th look that finds bytes.
 -- Assumes nothing.
-use mathlib.Core.Bool.{Bool, true, false, _&&_, not, cond, false≢true}
+use mathlib.Core.Bool.{Bool, true, false, _&&_, _||_, not, cond, false≢true}
 use mathlib.Core.List.{List, [], _∷_}
 use mathlib.Core.Path.{_≡_, refl}
-use lib.Dec.{ltb}
-use borrow.Author.Tests.{ltb-true}
+use lib.Dec.{eqb, leb, ltb}
+use borrow.Author.Tests.{eqb-true, le-leb, ltb-true}
 use Rattle.image.proofs.TestLaws.{both}
+use Rattle.sectors.specs.declared.work.Stage.{Stage}
+use Rattle.sectors.specs.declared.work.Stage.the-variants.{Searching, Turning, Reading, Draining, Awaiting, Storing}
+use Rattle.sectors.specs.declared.work.Work.{Work}
+use Rattle.sectors.specs.declared.work.Work.the-variants.{Identifying, Moving, Formatting}
 use Rattle.fdc.specs.declared.record.Controller.{Controller}
+use Rattle.fdc.specs.declared.record.Phase.{Phase}
+use Rattle.fdc.specs.declared.record.Phase.the-variants.{Idle, Gathering, Starting, Working, Sensing, Answering}
 use Rattle.reached.specs.Runs.{Call, powers, reads, writes, takes, gives, ticks, notes, after}
+use Rattle.demands.specs.DataError.{Drained}
 use Rattle.demands.specs.InTime.{AtTick, AtTicks, RequestOff, Prompt}
 use Rattle.demands.specs.Work.{OfBytes, AllOfBytes, atWork, Its}
 
@@ -90,3 +97,32 @@ off-prompt [] c e = tt
 off-prompt (call ∷ calls) c e = λ w.
     let (now, later) = both (offAt call c) (allOff calls (after call c)) (rw w at e) in
     (off-at call c now, off-prompt calls (after call c) later)
+
+-- the 64th look after a read's last byte, or a later one
+abbrev lastLook : Stage → Bool
+lastLook (Searching look) = false
+lastLook (Turning slot) = false
+lastLook (Reading sector done) = false
+lastLook (Draining sector looks) = leb 63 looks
+lastLook (Awaiting slot wait) = false
+lastLook (Storing slot done) = false
+
+abbrev lastLookOf : Work → Bool
+lastLookOf (Identifying site slot passes) = false
+lastLookOf (Moving site task stage) = lastLook stage
+lastLookOf (Formatting site plan form) = false
+
+abbrev lastLookIn : Phase → Bool
+lastLookIn Idle = false
+lastLookIn (Gathering entry) = false
+lastLookIn (Starting order) = false
+lastLookIn (Working work) = lastLookOf work
+lastLookIn (Sensing unit) = false
+lastLookIn (Answering loud) = false
+
+-- it finds none
+abbrev pub isDrained : Controller → Bool
+isDrained c = not (lastLookIn (c .phase)) || eqb (c .fifo .count) 0
+
+pub drained-at : (c : Controller) → isDrained c ≡ true → Drained c
+drained-at c t site task sector looks p l = eqb-true _ _ (rw (le-leb 63 looks l) at (rw p at t))

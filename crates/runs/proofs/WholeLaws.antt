@@ -4,8 +4,8 @@
 use Prim.Native.Nat.{ℕ, zero, suc, _<_}
 use native.Mathlib.Omega.{arith}
 use mathlib.Core.Bool.{Bool, true, false, _&&_, not, cond}
-use mathlib.Core.List.{List, [], _∷_}
-use mathlib.Core.Path.{_≡_, refl, sym, ap, ap₂, _∙_}
+use mathlib.Core.List.{List, [], _∷_, _++_}
+use mathlib.Core.Path.{_≡_, refl, sym, ap, ap₂, _∙_, subst}
 use lib.Dec.{eqb}
 use Rattle.image.specs.declared.disk.Disk.the-variants.{Present}
 use Rattle.image.specs.declared.slot.Id.{Id}
@@ -36,6 +36,11 @@ use Rattle.runs.specs.Whole.{
   lending,
   handing,
   callsOf,
+  nowBy,
+  doneBy,
+  leftBy,
+  further,
+  moreCalls,
   wroteOf,
   tookOf,
   WriteRun,
@@ -81,6 +86,23 @@ goes drive (ticks a b ∷ calls) c img work off h t =
     (off && not (c .fifo .asks)) (notedStore (d .effect) h) t
 goes drive (notes drive′ ∷ calls) c img work off h t =
     goes drive calls (after (notes drive′) c) img (work && atWork (c .phase)) off h t
+
+-- on from what was seen; a run goes on where its first part ends
+abbrev pub goesOn : ℕ → List Call → Seen → Seen
+goesOn drive calls s = goes drive calls (s .now) (s .left) (s .work) (s .off) (s .history) (s .took)
+
+goes-more : (drive : ℕ) (calls more : List Call) (c : Controller) (img : List ℕ) (work off : Bool) (h : History)
+    (t : Taken)
+    → goes drive (calls ++ more) c img work off h t ≡ goesOn drive more (goes drive calls c img work off h t)
+unfolding goes
+goes-more drive [] more c img work off h t = refl
+goes-more drive (powers head0 head1 ∷ calls) more c img work off h t = goes-more drive calls more _ _ _ _ _ _
+goes-more drive (reads offset ∷ calls) more c img work off h t = goes-more drive calls more _ _ _ _ _ _
+goes-more drive (writes offset byte ∷ calls) more c img work off h t = goes-more drive calls more _ _ _ _ _ _
+goes-more drive (takes tc ∷ calls) more c img work off h t = goes-more drive calls more _ _ _ _ _ _
+goes-more drive (gives byte tc ∷ calls) more c img work off h t = goes-more drive calls more _ _ _ _ _ _
+goes-more drive (ticks a b ∷ calls) more c img work off h t = goes-more drive calls more _ _ _ _ _ _
+goes-more drive (notes drive′ ∷ calls) more c img work off h t = goes-more drive calls more _ _ _ _ _ _
 
 goes-now : (drive : ℕ) (calls : List Call) (c : Controller) (img : List ℕ) (work off : Bool) (h : History)
     (t : Taken)
@@ -192,7 +214,7 @@ lent (suc zero) p img (ticks a b) = refl
 lent (suc (suc k)) p img (ticks a b) = absurd (omega arith)
 lent drive p img (notes drive′) = tt
 
-handing-alone : (drive : ℕ) → drive < 2 → (calls : List Call) (c : Controller) (img : List ℕ)
+pub handing-alone : (drive : ℕ) → drive < 2 → (calls : List Call) (c : Controller) (img : List ℕ)
     → Alone drive img (handing drive calls c img) c
 unfolding Alone
 handing-alone drive p [] c img = tt
@@ -255,20 +277,35 @@ forms result host left =
     record { phase = Answering true; result = result; host = host; left = left; work = true }
 
 module _ (x : WholeGiven) where
-  wrote-in : seenIn x .history ≡ historyOf (callsOf x) (askedBy x) noHistory
+  pub wrote-in : seenIn x .history ≡ doneBy x
   wrote-in = goes-wrote (x .order .drive) (x .does) (askedBy x) (x .img) true true noHistory untaken
 
-  its-in : seenIn x .work ≡ true → Its (callsOf x) (askedBy x)
+  pub its-in : seenIn x .work ≡ true → Its (callsOf x) (askedBy x)
   its-in e = goes-its (x .order .drive) (x .does) (askedBy x) (x .img) true true noHistory untaken e .1
 
   pub alone-in : x .order .drive < 2 → Alone (x .order .drive) (x .img) (callsOf x) (askedBy x)
   alone-in p = handing-alone (x .order .drive) p (x .does) (askedBy x) (x .img)
 
-  now-in : seenIn x .now ≡ runCalls (callsOf x) (askedBy x)
+  now-in : seenIn x .now ≡ nowBy x
   now-in = goes-now (x .order .drive) (x .does) (askedBy x) (x .img) true true noHistory untaken
 
-  pub left-in : seenIn x .left ≡ imageLeft (x .order .drive) (x .img) (callsOf x) (askedBy x)
+  pub left-in : seenIn x .left ≡ leftBy x
   left-in = goes-left (x .order .drive) (x .does) (askedBy x) (x .img) true true noHistory untaken
+
+  -- the same of what the host does then
+  pub more-in : (more : List Call) → seenIn (further more x) ≡ goesOn (x .order .drive) more (seenIn x)
+  more-in more = goes-more (x .order .drive) (x .does) more (askedBy x) (x .img) true true noHistory untaken
+
+  pub more-its : (more : List Call) → goesOn (x .order .drive) more (seenIn x) .work ≡ true
+      → Its (moreCalls more x) (nowBy x)
+  more-its more e =
+      subst (λ (c : Controller). Its (handing (x .order .drive) more c (leftBy x)) c) now-in
+      (subst (λ (img : List ℕ). Its (handing (x .order .drive) more (seenIn x .now) img) (seenIn x .now)) left-in
+      (goes-its (x .order .drive) more _ _ _ _ _ _ e .1))
+
+  pub more-alone : (more : List Call) → x .order .drive < 2
+      → Alone (x .order .drive) (leftBy x) (moreCalls more x) (nowBy x)
+  more-alone more p = handing-alone (x .order .drive) p more (nowBy x) (leftBy x)
 
   served-in : seenIn x .off ≡ true → Served x
   served-in e = goes-off (x .order .drive) (x .does) (askedBy x) (x .img) true true noHistory untaken e .1

@@ -10,7 +10,7 @@ use Rattle.sectors.specs.declared.order.Pass.the-variants.{Write}
 use Rattle.sectors.specs.declared.order.Transfer.{Transfer}
 use Rattle.reached.specs.Examples.{command, bare}
 use Rattle.reached.specs.Runs.{Call, gives}
-use Rattle.demands.specs.History.{no-one, some-of}
+use Rattle.demands.specs.History.{no-one}
 use Rattle.runs.specs.CutExamples.{down, full}
 use Rattle.runs.specs.Host.{orderOf, idle, poured, times, trackOf, imageOf, quad}
 use Rattle.runs.specs.Whole.{WholeGiven, WholeOutcome, waiting, WriteRun, Served}
@@ -113,8 +113,8 @@ deletingEnd =
     waiting (0x00 ∷ 0x00 ∷ 0x00 ∷ 0 ∷ 0 ∷ 2 ∷ 2 ∷ []) true (down 16 ++ down 4)
     (record { at = 13; bytes = down 16 ++ (down 4 ++ replicate 492 0) } ∷ []) no-one
 
--- FIFO on with FIFOTHR 15, non-DMA, cylinder 1, side 1, N 2: the host stops after five bytes, and the sector stays
--- begun
+-- FIFO on with FIFOTHR 15, non-DMA, cylinder 1, side 1: the host stops after five bytes, and zeros fill the sector
+-- (02 2026-02)
 abbrev pub short : WholeGiven
 short =
     record {
@@ -123,16 +123,17 @@ short =
       dor = 0x1C;
       config = 0x0F;
       spec = 0x03;
-      bytes = 0x45 ∷ 0x04 ∷ 1 ∷ 1 ∷ 1 ∷ 2 ∷ 1 ∷ 0x1B ∷ 0xFF ∷ [];
-      order = orderOf 0 1 (writing false false 1) 1 1 1 2;
-      disk = disk 2 2 1 2;
-      img = quad 2 1;
-      does = bare ∷ command (down 5) ++ idle 8;
+      bytes = 0x45 ∷ 0x04 ∷ 1 ∷ 1 ∷ 1 ∷ 1 ∷ 1 ∷ 0x1B ∷ 0xFF ∷ [];
+      order = orderOf 0 1 (writing false false 1) 1 1 1 1;
+      disk = disk 2 2 1 1;
+      img = quad 1 1;
+      does = bare ∷ command (down 5) ++ idle 259;
     }
 
 abbrev pub shortEnd : WholeOutcome
 shortEnd =
-    waiting (0x44 ∷ 0x10 ∷ 0x00 ∷ 1 ∷ 1 ∷ 1 ∷ 2 ∷ []) false (down 5) [] (some-of 1579 (down 5))
+    waiting (0x44 ∷ 0x10 ∷ 0x00 ∷ 1 ∷ 1 ∷ 1 ∷ 1 ∷ []) false (down 5)
+    (record { at = 811; bytes = down 5 ++ replicate 251 0 } ∷ []) no-one
 
 pub record AckExamples : Type 0 where
   pub safe-run : WriteRun safe safeEnd

@@ -1,6 +1,7 @@
--- The read after a cut, call by call: all premises of `DataError` are met at once. The write is the one of CutExamples
--- that is cut in its second sector; power comes back, the motor goes on, and a Read Data of that sector is given, by
--- DMA. The proofs are in proofs/DataErrorExamples.antt.
+-- The read after a cut, call by call: all premises of `DataErrorInTime` are met at once, and those of `DataError` by a
+-- host that takes no byte (02 2026-02). The write is the one of CutExamples that is cut in its second sector; power
+-- comes back, the motor goes on, and a Read Data of that sector is given, by DMA. The proofs are in
+-- proofs/DataErrorExamples.antt.
 -- Assumes nothing.
 use Prim.Native.Nat.{ℕ, zero, suc, _≤_}
 use mathlib.Core.Bool.{true, false}
@@ -20,12 +21,14 @@ use Rattle.reached.specs.Moves.{tickCount}
 use Rattle.reached.specs.Runs.{Call, takes, ticks, after, runCalls}
 use Rattle.fdc.specs.Ticks.{imageAfter}
 use Rattle.runs.specs.CutExamples.{writer, written, sectorOne, ordered, cutCalls, full}
-use Rattle.demands.specs.DataError.{ReadsIt, Spins, DataErrorOrLate, DataErrorAt}
+use Rattle.demands.specs.DataError.{ReadsThere, Spins, DataErrorAt, DataErrorTold, Drained}
 use Rattle.demands.specs.EndsInTime.{boundOf}
 use Rattle.demands.specs.History.{some-of, noHistory, historyOf}
-use Rattle.demands.specs.InTime.{Prompt}
+use Rattle.demands.specs.InTime.{AtTicks, Prompt}
 use Rattle.demands.specs.PowerCut.{Writes}
 use Rattle.demands.specs.Work.{Real, Its, Alone, imageLeft, EndsWith}
+use Rattle.runs.specs.Host.{idle}
+use Rattle.runs.specs.Whole.{handing}
 
 -- the write's calls
 abbrev pub wrote : List Call
@@ -61,6 +64,10 @@ taking (suc n) c img =
 abbrev pub readCalls : List Call
 readCalls = taking 1980 reader leftImage
 
+-- the same, and no byte taken: 260 ticks, and so many more
+abbrev pub lateCalls : List Call
+lateCalls = handing 0 (idle 260 ++ idle 1720) reader leftImage
+
 pub record DataErrorExample : Type 0 where
   -- the premises
   pub writer-real : Real (writer true)
@@ -70,15 +77,22 @@ pub record DataErrorExample : Type 0 where
   pub alone : Alone 0 (sample 2) wrote (writer true)
   pub begun : historyOf wrote (writer true) noHistory .begun ≡ some-of 274 (take 10 (drop 256 full))
   pub reader-real : Real reader
-  pub reader-reads : ReadsIt reader readOrder read sectorTwo (disk 1 1 2 1) written (sample 2) 274
+  pub reader-reads : ReadsThere reader readOrder read sectorTwo (disk 1 1 2 1) (sample 2) 274
   pub spins : Spins 0 readCalls reader
   pub alone-too : Alone 0 leftImage readCalls reader
   pub enough : boundOf (disk 1 1 2 1) ≤ tickCount readCalls
-  -- so it ends so
-  pub ends : EndsWith DataErrorOrLate readCalls reader
-  -- and served so it is the data error: the tests, two looks, 256 bytes, and the look that finds the FIFO empty
+  pub prompt : Prompt readCalls reader
+  -- so it ends so: the tests, two looks, 256 bytes, and the look that finds the FIFO empty
+  pub ends : EndsWith (DataErrorAt 0x20 readOrder sectorTwo read written) readCalls reader
   pub result :
       runCalls (taking 260 reader leftImage) reader .bytes .results ≡ 0x40 ∷ 0x20 ∷ 0x20 ∷ 0 ∷ 0 ∷ 2 ∷ 1 ∷ []
-  -- each tick of it finds the request off; so `DataErrorInTime` says that too, of every such host
-  pub prompt : Prompt readCalls reader
-  pub ends-exactly : EndsWith (DataErrorAt readOrder sectorTwo read written) readCalls reader
+  -- the premises, of the host that takes none
+  pub late-spins : Spins 0 lateCalls reader
+  pub late-alone : Alone 0 leftImage lateCalls reader
+  pub late-enough : boundOf (disk 1 1 2 1) ≤ tickCount lateCalls
+  pub late-drained : AtTicks Drained lateCalls reader
+  -- so it is told too, with ST1 30 in the same tick
+  pub late-ends : EndsWith (DataErrorTold readOrder sectorTwo read written) lateCalls reader
+  pub late-result :
+      runCalls (handing 0 (idle 260) reader leftImage) reader .bytes .results
+      ≡ 0x40 ∷ 0x30 ∷ 0x20 ∷ 0 ∷ 0 ∷ 2 ∷ 1 ∷ []

@@ -78,7 +78,8 @@ abbrev pub wholeEnd : WholeOutcome
 wholeEnd =
     waiting (0x44 ∷ 0x80 ∷ 0x00 ∷ 1 ∷ 1 ∷ 1 ∷ 2 ∷ []) false (contents 2 0x01) [] no-one
 
--- FIFO on with FIFOTHR 7, DMA, drive 1, cylinder 1, Read Deleted: the host stops after three bytes, and the FIFO fills
+-- FIFO on with FIFOTHR 7, DMA, drive 1, cylinder 1, Read Deleted: the host stops after three bytes, the FIFO fills, and
+-- the sector is run to its end without it (02 2026-02)
 abbrev pub late : WholeGiven
 late =
     record {
@@ -91,7 +92,7 @@ late =
       order = orderOf 1 0 (reading true false false 1) 1 0 1 1;
       disk = disk 2 2 1 1;
       img = quad 1 2;
-      does = idle 2 ++ (idle 8 ++ (takenCalls 3 ++ idle 12));
+      does = idle 2 ++ (idle 8 ++ (takenCalls 3 ++ idle 249));
     }
 
 abbrev pub lateEnd : WholeOutcome

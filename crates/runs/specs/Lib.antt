@@ -12,6 +12,7 @@ pub mod PromptRuns
 pub mod ReadIdRuns
 pub mod RegisterRuns
 pub mod RowRuns
+pub mod ShortRuns
 pub mod SucceedsExamples
 pub mod SuccessRuns
 pub mod TripExamples

@@ -20,7 +20,8 @@ use Rattle.runs.specs.AckExamples.{writing}
 use Rattle.runs.specs.CutExamples.{down}
 use Rattle.runs.specs.HandedExamples.{reading}
 use Rattle.runs.specs.Host.{orderOf, idle, takenCalls, poured, times, imageOf, double}
-use Rattle.runs.specs.Whole.{WholeGiven, WholeOutcome, askedBy, callsOf, waiting, WriteRun, ReadRun, Served}
+use Rattle.runs.specs.Whole.{WholeGiven, WholeOutcome, askedBy, callsOf, further, waiting}
+use Rattle.runs.specs.Whole.{WriteRun, ReadRun, Served}
 
 -- FIFO on with FIFOTHR 7, DMA, sectors 1 and 2
 abbrev pub first : List ℕ
@@ -75,19 +76,7 @@ backEnd = waiting (0x00 ∷ 0x00 ∷ 0x00 ∷ 1 ∷ 0 ∷ 1 ∷ 1 ∷ []) true (
 
 -- and so many ticks more
 abbrev pub longer : ℕ → WholeGiven → WholeGiven
-longer n x =
-    record {
-      head0 = x .head0;
-      head1 = x .head1;
-      dor = x .dor;
-      config = x .config;
-      spec = x .spec;
-      bytes = x .bytes;
-      order = x .order;
-      disk = x .disk;
-      img = x .img;
-      does = x .does ++ idle n;
-    }
+longer n x = further (idle n) x
 
 pub record LongRun (x : WholeGiven) : Type 0 where
   pub spins : Spins (x .order .drive) (callsOf x) (askedBy x)

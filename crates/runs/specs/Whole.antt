@@ -69,6 +69,35 @@ handing drive (call ∷ calls) c img =
 abbrev pub callsOf : WholeGiven → List Call
 callsOf x = handing (x .order .drive) (x .does) (askedBy x) (x .img)
 
+-- the record, what was handed over and stored, and the image, after these calls
+abbrev pub nowBy : WholeGiven → Controller
+nowBy x = runCalls (callsOf x) (askedBy x)
+
+abbrev pub doneBy : WholeGiven → History
+doneBy x = historyOf (callsOf x) (askedBy x) noHistory
+
+abbrev pub leftBy : WholeGiven → List ℕ
+leftBy x = imageLeft (x .order .drive) (x .img) (callsOf x) (askedBy x)
+
+-- what the host does then
+abbrev pub further : List Call → WholeGiven → WholeGiven
+further more x =
+    record {
+      head0 = x .head0;
+      head1 = x .head1;
+      dor = x .dor;
+      config = x .config;
+      spec = x .spec;
+      bytes = x .bytes;
+      order = x .order;
+      disk = x .disk;
+      img = x .img;
+      does = x .does ++ more;
+    }
+
+abbrev pub moreCalls : List Call → WholeGiven → List Call
+moreCalls more x = handing (x .order .drive) more (nowBy x) (leftBy x)
+
 -- at the end: the phase, the result ST0 ST1 ST2 C H R N; whether TC came, and the bytes that passed; of a write the
 -- sectors finished, the last one first, and the one begun
 pub record WholeOutcome : Type 0 where

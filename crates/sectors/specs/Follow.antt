@@ -24,7 +24,7 @@ abbrev pub freshAt : ℕ → Search
 freshAt slot = record { slot = slot; passes = 0; met = false; wrong = false; bad = false }
 
 abbrev pub withId : Id → Task → Task
-withId id task = record { transfer = task .transfer; id = id; other = task .other }
+withId id task = record { transfer = task .transfer; id = id; other = task .other; late = task .late }
 
 abbrev pub onSide : ℕ → Site → Site
 onSide side site = record { drive = site .drive; side = side; disk = site .disk }

@@ -6,7 +6,7 @@ use mathlib.Core.List.{List}
 use lib.Dec.{eqb, leb}
 use lib.ListN.{getD}
 use Rattle.chip.specs.declared.fifo.Fifo.{Fifo}
-use Rattle.chip.specs.Fifo.{fullOf, filledOf}
+use Rattle.chip.specs.Fifo.{fullOf, filledOf, shut}
 use Rattle.image.specs.declared.lent.Effect.the-variants.{Nothing}
 use Rattle.sectors.specs.declared.work.Sector.{Sector}
 use Rattle.sectors.specs.declared.work.Site.{Site}
@@ -14,12 +14,8 @@ use Rattle.sectors.specs.declared.work.Stage.the-variants.{Reading, Drai
 use Rattle.sectors.specs.declared.work.Step.{Step}
 use Rattle.sectors.specs.declared.work.Task.{Task}
 use Rattle.sectors.specs.Follow.{followOf}
-use Rattle.sectors.specs.Result.{moveEnd, moveFails, movesOf}
+use Rattle.sectors.specs.Result.{lateEnd, moveEnd, moveFails, movesOf, tardy}
 use Rattle.sectors.specs.Track.{dataPlace, passBytes, sectorBytes}
-
--- 01 Read: a byte to move and the FIFO full: ST1 10
-unfoldable pub overrun : Site → Task → Step
-overrun site task = moveFails 0x10 0x00 site task
 
 -- 01 FIFO, for the request: that byte is the sector's last one sent
 abbrev pub lastByte : Site → Task → ℕ → Bool
@@ -35,27 +31,33 @@ readOn sector done site task fifo =
     cond (sectorOver site done) (movesOf (Draining sector 0) site task fifo Nothing)
     (movesOf (Reading sector (done + 1)) site task fifo Nothing)
 
+-- 02 2026-02: a byte to move and the FIFO full: ST1 10; that byte is lost, the FIFO is emptied, the request off for
+-- good, and the sector is run to its end
+unfoldable pub overrun : Sector → ℕ → Site → Task → Step
+overrun sector done site task = readOn sector done site (tardy task) shut
+
 -- 01 Read: a byte a tick; after TC no byte follows and the sector is run to its end. The byte is that of the image
 -- lent to this tick (D-116)
 unfoldable pub readOf : Sector → ℕ → Site → Task → ℕ → List ℕ → Fifo → Bool → ℕ → Step
 readOf sector done site task head img fifo efifo fifothr =
     cond (fifo .tc) (readOn sector done site task fifo)
-    (cond (fullOf efifo fifo) (overrun site task)
+    (cond (fullOf efifo fifo) (overrun sector done site task)
     (readOn sector done site task
     (filledOf efifo fifothr (lastByte site task done) (getD img (dataPlace site head (sector .slot) done) 0) fifo)))
 
--- 01 Read: a look that finds none, in this order: broken, ST1 20, ST2 20; other kind, IC 00, address as it was,
--- before TC (D-109); else Next
+-- 01 Read: a look that finds none, in this order: broken, ST1 20, ST2 20; a byte was late, ST1 10 (02 2026-02); other
+-- kind, IC 00, address as it was, before TC (D-109); else Next
 unfoldable pub drainedOf : Sector → Site → Task → Fifo → Step
 drainedOf sector site task fifo =
     cond (sector .broken) (moveFails 0x20 0x20 site task)
+    (cond (task .late) (lateEnd Nothing site task)
     (cond (sector .other) (moveEnd true 0x00 0x00 (task .id) Nothing site task)
-    (followOf (sector .slot) (fifo .tc) site task fifo Nothing))
+    (followOf (sector .slot) (fifo .tc) site task fifo Nothing)))
 
 -- 01 Read: after the last byte each tick looks at the FIFO: the 64th that finds bytes ends it, ST1 10. A byte taken
 -- does not count them anew (D-110)
 unfoldable pub drainOf : Sector → ℕ → Site → Task → Fifo → Step
 drainOf sector looks site task fifo =
     cond (eqb (fifo .count) 0) (drainedOf sector site task fifo)
-    (cond (leb 63 looks) (moveFails 0x10 0x00 site task)
+    (cond (leb 63 looks) (lateEnd Nothing site task)
     (movesOf (Draining sector (looks + 1)) site task fifo Nothing))

@@ -2,7 +2,7 @@
 -- where it is met.
 -- Assumes nothing.
 use Prim.Native.Nat.{ℕ, _+_, _*_, _%_}
-use mathlib.Core.Bool.{Bool, false, cond}
+use mathlib.Core.Bool.{Bool, true, false, cond}
 use Rattle.chip.specs.declared.fifo.Fifo.{Fifo}
 use Rattle.chip.specs.Fifo.{emptied}
 use Rattle.image.specs.declared.lent.Effect.{Effect}
@@ -37,14 +37,26 @@ endOf normal drive side st1 st2 id effect =
 abbrev pub otherBit : Bool → ℕ
 otherBit other = cond other 0x40 0x00
 
+-- 02 2026-02: a byte was late: ST1 10 from then on, in every later end
+abbrev pub lateBit : Bool → ℕ
+lateBit late = cond late 0x10 0x00
+
 -- the end of a transfer
 unfoldable pub moveEnd : Bool → ℕ → ℕ → Id → Effect → Site → Task → Step
 moveEnd normal st1 st2 id effect site task =
-    endOf normal (site .drive) (site .side) st1 (otherBit (task .other) + st2) id effect
+    endOf normal (site .drive) (site .side) (lateBit (task .late) + st1) (otherBit (task .other) + st2) id effect
 
 -- 01 Result: other ends give the sector in hand
 unfoldable pub moveFails : ℕ → ℕ → Site → Task → Step
 moveFails st1 st2 site task = moveEnd false st1 st2 (task .id) Nothing site task
+
+-- a byte is late
+abbrev pub tardy : Task → Task
+tardy task = record { transfer = task .transfer; id = task .id; other = task .other; late = true }
+
+-- ST1 10, and the sector in hand
+unfoldable pub lateEnd : Effect → Site → Task → Step
+lateEnd effect site task = moveEnd false 0x00 0x00 (task .id) effect site (tardy task)
 
 -- a tick that ends nothing
 abbrev pub goesOf : Work → Fifo → Effect → Step

@@ -76,7 +76,8 @@ missedOf look site task fifo =
 
 -- 01 Read: other kind of mark: ST2 40 from then on
 abbrev pub withOther : Bool → Task → Task
-withOther other task = record { transfer = task .transfer; id = task .id; other = task .other || other }
+withOther other task =
+    record { transfer = task .transfer; id = task .id; other = task .other || other; late = task .late }
 
 -- 01 Read: SK 1 skips another kind in the tick of the match, broken or not, by Next; a skipped slot counts as used
 -- (D-102). The mark seen at the match holds to the sector's end

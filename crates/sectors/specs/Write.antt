@@ -4,7 +4,7 @@ use Prim.Native.Nat.{ℕ, _+_}
 use mathlib.Core.Bool.{Bool, true, false, _&&_, cond}
 use lib.Dec.{eqb, leb}
 use Rattle.chip.specs.declared.fifo.Fifo.{Fifo}
-use Rattle.chip.specs.Fifo.{drawnOf, frontOf}
+use Rattle.chip.specs.Fifo.{drawnOf, frontOf, shut}
 use Rattle.image.specs.declared.lent.Effect.the-variants.{Nothing, Store}
 use Rattle.image.specs.declared.mark.Mark.the-variants.{Data}
 use Rattle.image.specs.Mark.{byteOf}
@@ -13,12 +13,8 @@ use Rattle.sectors.specs.declared.work.Stage.the-variants.{Awaiting, Sto
 use Rattle.sectors.specs.declared.work.Step.{Step}
 use Rattle.sectors.specs.declared.work.Task.{Task}
 use Rattle.sectors.specs.Follow.{followOf}
-use Rattle.sectors.specs.Result.{moveFails, movesOf}
+use Rattle.sectors.specs.Result.{lateEnd, movesOf, tardy}
 use Rattle.sectors.specs.Track.{dataPlace, markPlace, sectorBytes}
-
--- 01 Write: a byte to store, the FIFO empty without TC: ST1 10, the sector stays broken
-unfoldable pub underrun : Site → Task → Step
-underrun site task = moveFails 0x10 0x00 site task
 
 -- the marks stored are of the command's kind, whatever stood there (D-113)
 abbrev pub writtenMark : Bool → Task → ℕ
@@ -29,7 +25,7 @@ writtenMark broken task = byteOf (Data (task .transfer .deleted) broken)
 unfoldable pub awaitOf : ℕ → ℕ → Site → Task → ℕ → Fifo → Step
 awaitOf slot wait site task head fifo =
     cond (eqb (fifo .count) 0)
-    (cond (leb 63 wait) (moveFails 0x10 0x00 site task) (movesOf (Awaiting slot (wait + 1)) site task fifo Nothing))
+    (cond (leb 63 wait) (lateEnd Nothing site task) (movesOf (Awaiting slot (wait + 1)) site task fifo Nothing))
     (movesOf (Storing slot 0) site task fifo (Store (markPlace site head slot) (writtenMark true task)))
 
 -- a byte stored
@@ -37,16 +33,23 @@ unfoldable pub putOf : ℕ → ℕ → ℕ → Site → Task → ℕ → Fifo �
 putOf byte slot done site task head fifo =
     movesOf (Storing slot (done + 1)) site task fifo (Store (dataPlace site head slot done) byte)
 
+-- 02 2026-02: a byte to store, the FIFO empty without TC: ST1 10; the request goes off for good, and this is the first
+-- of the zeros that fill the sector
+unfoldable pub underrun : ℕ → ℕ → Site → Task → ℕ → Step
+underrun slot done site task head = putOf 0x00 slot done site (tardy task) head shut
+
 -- 01 Write: after TC and with the FIFO empty, zeros
 unfoldable pub dryOf : ℕ → ℕ → Site → Task → ℕ → Fifo → Step
 dryOf slot done site task head fifo =
-    cond (fifo .tc) (putOf 0x00 slot done site task head fifo) (underrun site task)
+    cond (fifo .tc) (putOf 0x00 slot done site task head fifo) (underrun slot done site task head)
 
--- 01 Write: good mark, and Next in that same tick; TC counts there with the FIFO empty (D-112)
+-- 01 Write: good mark, and Next in that same tick; TC counts there with the FIFO empty (D-112). 02 2026-02: a byte was
+-- missing: the command ends, without Next
 unfoldable pub writtenOf : ℕ → Site → Task → ℕ → Fifo → Step
 writtenOf slot site task head fifo =
-    followOf slot (fifo .tc && eqb (fifo .count) 0) site task fifo
-    (Store (markPlace site head slot) (writtenMark false task))
+    cond (task .late) (lateEnd (Store (markPlace site head slot) (writtenMark false task)) site task)
+    (followOf slot (fifo .tc && eqb (fifo .count) 0) site task fifo
+    (Store (markPlace site head slot) (writtenMark false task)))
 
 -- 01 Write: B bytes, one a tick
 unfoldable pub storeOf : ℕ → ℕ → Site → Task → ℕ → Fifo → Bool → ℕ → Step

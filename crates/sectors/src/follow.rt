@@ -37,6 +37,7 @@ fn with_id(id: Id, task: Task) -> Task
         transfer,
         id,
         other: task.other,
+        late: task.late,
     }
 }
 

@@ -1,6 +1,8 @@
 // 01 Read: a sector's bytes to the FIFO, then the looks at the FIFO.
+use crate::ends::late_end;
 use crate::ends::move_end;
 use crate::ends::move_fails;
+use crate::ends::tardy;
 use crate::follow::follow;
 use crate::result::moves;
 use crate::track::data_place;
@@ -16,13 +18,6 @@ use image::bytes::byte_at;
 use image::lent::Effect;
 ghost use mathlib.Core.Path.{_≡_};
 ghost use Rattle.sectors.specs.Read.{overrun, lastByte, readOn, readOf, drainedOf, drainOf};
-
-// The FIFO is full and a byte is due.
-fn overrun_end(site: Site, task: Task) -> Step
-    ensures { λ r. ⌜ r ≡ overrun site task ⌝ }
-{
-    move_fails(0x10, 0x00, site, task)
-}
 
 // For the request: the last byte sent.
 fn last_byte(site: Site, task: Task, done: u16) -> bool
@@ -52,6 +47,13 @@ fn read_on(sector: Sector, done: u16, site: Site, task: Task, fifo: Fifo) -> Ste
     )
 }
 
+// The FIFO is full and a byte is due: it is lost, and the sector runs on as after TC (000 4.2.5).
+fn run_over(sector: Sector, done: u16, site: Site, task: Task) -> Step
+    ensures { λ r. ⌜ r ≡ overrun sector done site task ⌝ }
+{
+    read_on(sector, done, site, tardy(task), Fifo::shut())
+}
+
 pub fn read(
     sector: Sector,
     done: u16,
@@ -70,7 +72,7 @@ pub fn read(
     }
     let full = fifo.full(efifo);
     if full {
-        return overrun_end(site, task);
+        return run_over(sector, done, site, task);
     }
     let byte = byte_at(s, data_place(site, head, sector.slot, done));
     let f = fifo.filled(efifo, fifothr, last_byte(site, task, done), byte);
@@ -82,6 +84,9 @@ fn drained(sector: Sector, site: Site, task: Task, fifo: Fifo) -> Step
 {
     if sector.broken {
         return move_fails(0x20, 0x20, site, task);
+    }
+    if task.late {
+        return late_end(Effect::Nothing, site, task);
     }
     if sector.other {
         let id = task.id;
@@ -98,7 +103,7 @@ pub fn drain(sector: Sector, looks: u8, site: Site, task: Task, fifo: Fifo) -> S
         return drained(sector, site, task, fifo);
     }
     if 63 <= looks {
-        return move_fails(0x10, 0x00, site, task);
+        return late_end(Effect::Nothing, site, task);
     }
     moves(
         Stage::Draining(sector, looks + 1),

@@ -133,6 +133,7 @@ fn with_other(other: bool, task: Task) -> Task
         transfer,
         id,
         other: task.other | other,
+        late: task.late,
     }
 }
 

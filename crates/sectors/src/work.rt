@@ -13,11 +13,13 @@ pub struct Site {
     pub disk: Geometry,
 }
 
-// A transfer with the sector in hand. other: a mark of the other kind was met, so ST2 has its 40 from then on.
+// A transfer with the sector in hand. other: a mark of the other kind was met, so ST2 has its 40 from then on. late: a
+// byte came late, so ST1 has its 10 from then on and the command ends with this sector (02 2026-02).
 pub struct Task {
     pub transfer: Transfer,
     pub id: Id,
     pub other: bool,
+    pub late: bool,
 }
 
 // One search: the slot to look at, the passes counted, whether an ID was met, and one with another C below FF, or FF.

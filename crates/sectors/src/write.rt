@@ -1,5 +1,6 @@
 // 01 Write: the wait for a byte, and then one store a tick: broken mark, B bytes, good mark.
-use crate::ends::move_fails;
+use crate::ends::late_end;
+use crate::ends::tardy;
 use crate::follow::follow;
 use crate::result::moves;
 use crate::track::data_place;
@@ -25,13 +26,6 @@ ghost use Rattle.sectors.specs.Write.{
   storeOf,
 };
 
-// A byte is due and the FIFO has none: the sector stays broken.
-fn underrun_end(site: Site, task: Task) -> Step
-    ensures { λ r. ⌜ r ≡ underrun site task ⌝ }
-{
-    move_fails(0x10, 0x00, site, task)
-}
-
 fn written_mark(broken: bool, task: Task) -> u8
     ensures { λ r. ⌜ r ≡ writtenMark broken task ⌝ }
 {
@@ -46,7 +40,7 @@ pub fn await_byte(slot: u8, wait: u8, site: Site, task: Task, head: u8, fifo: Fi
     let empty = fifo.count == 0;
     if empty {
         if 63 <= wait {
-            return move_fails(0x10, 0x00, site, task);
+            return late_end(Effect::Nothing, site, task);
         }
         return moves(
             Stage::Awaiting(slot, wait + 1),
@@ -81,6 +75,14 @@ fn put(byte: u8, slot: u8, done: u16, site: Site, task: Task, head: u8, fifo: Fi
     )
 }
 
+// A byte is due and the FIFO has none: zeros from here on, as after TC (000 4.2.5).
+fn run_under(slot: u8, done: u16, site: Site, task: Task, head: u8) -> Step
+    requires { ⌜ done < 1024 ⌝ }
+    ensures { λ r. ⌜ r ≡ underrun slot done site task head ⌝ }
+{
+    put(0x00, slot, done, site, tardy(task), head, Fifo::shut())
+}
+
 // No byte is there: zeros after TC.
 fn dry(slot: u8, done: u16, site: Site, task: Task, head: u8, fifo: Fifo) -> Step
     requires { ⌜ done < 1024 ⌝ }
@@ -89,7 +91,7 @@ fn dry(slot: u8, done: u16, site: Site, task: Task, head: u8, fifo: Fifo) -> Ste
     if fifo.tc {
         return put(0x00, slot, done, site, task, head, fifo);
     }
-    underrun_end(site, task)
+    run_under(slot, done, site, task, head)
 }
 
 fn written(slot: u8, site: Site, task: Task, head: u8, fifo: Fifo) -> Step
@@ -97,6 +99,9 @@ fn written(slot: u8, site: Site, task: Task, head: u8, fifo: Fifo) -> Step
 {
     let at = mark_place(site, head, slot);
     let byte = written_mark(false, task);
+    if task.late {
+        return late_end(Effect::Store { at, byte }, site, task);
+    }
     let tc = fifo.tc & (fifo.count == 0);
     follow(slot, tc, site, task, fifo, Effect::Store { at, byte })
 }

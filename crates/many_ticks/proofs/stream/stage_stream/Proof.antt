@@ -11,5 +11,6 @@ stage-stream-spec =
     (λ c. search needs) (λ c. search needs) (λ c. search needs) (λ c. search needs) (λ c. search needs)
     (λ c. search needs) (λ c. search needs) (λ c. search needs)
     (λ c. rw (c .before .stage3 .given .1))
-    (λ c. search needs) (λ c. search needs)
+    (λ c. rw (c .before .stage4 .given .1))
+    (λ c. search needs)
     (λ c. rw (c .before .stage6 .given .1)))

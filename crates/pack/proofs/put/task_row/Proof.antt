@@ -9,13 +9,16 @@ task-row-spec =
     tie.close
     (tie.spec
     (λ c κs. search needs) (λ c κs. search needs) (λ c κs. search needs) (λ c κs. search needs) (λ c κs. search needs)
+    (λ c κs. search needs)
     (λ c.
-    let at-bit3 = c .before in
+    let at-bit4 = c .before in
+    let at-bit3 = at-bit4 .before in
     let at-bit2 = at-bit3 .before in
     let at-bit = at-bit2 .before in
     let at-pass-number = at-bit .before in
     rw (
-      c .bit4 .ensures,
+      c .bit5 .ensures,
+      at-bit4 .bit4 .ensures,
       at-bit3 .bit3 .ensures,
       at-bit2 .bit2 .ensures,
       at-bit .bit .ensures,

@@ -10,5 +10,5 @@ unfolding moveEnd
 move-end-spec =
     tie.close
     (tie.spec
-    (λ c κs. search needs) (λ c. search needs) (λ c κs. search needs)
-    (λ c. c .end .ensures ∙ rw (c .before .other-bit .ensures .0)))
+    (λ c κs. search needs) (λ c. search needs) (λ c κs. search needs) (λ c. search needs) (λ c κs. search needs)
+    (λ c. c .end .ensures ∙ rw (c .before .other-bit .ensures .0, c .before .before .late-bit .ensures .0)))

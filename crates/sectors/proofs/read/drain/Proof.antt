@@ -13,6 +13,6 @@ drain-spec =
     (λ c κs. search needs)
     (λ c. rw (c .before .if1 .taken) (c .drained .ensures))
     (λ c κs. search needs)
-    (λ c. simp (c .before .before .if1 .left, le-leb _ _ (c .before .if2 .taken)) (c .move-fails .ensures))
+    (λ c. simp (c .before .before .if1 .left, le-leb _ _ (c .before .if2 .taken)) (c .late-end .ensures))
     (λ c. search needs) (λ c κs. search needs)
     (λ c. simp (c .before .before .if1 .left, lt-leb _ _ (c .before .if2 .left)) (c .moves .ensures)))

@@ -15,7 +15,7 @@ read-spec =
     (λ c. yes _ _ (c .before .if1 .taken) (c .read-on .ensures))
     (λ c κs. search needs) (λ c κs. search needs)
     (λ c. no _ _ (c .before .before .before .if1 .left)
-    (yes _ _ (sym (c .before .before .full .ensures) ∙ c .before .if2 .taken) (c .overrun-end .ensures)))
+    (yes _ _ (sym (c .before .before .full .ensures) ∙ c .before .if2 .taken) (c .run-over .ensures)))
     (λ c κs. search needs) (λ c κs. search needs) (λ c κs. search needs) (λ c κs. search needs)
     (λ c κs. search needs)
     (λ c. no _ _ (c .before .before .before .before .before .before .before .if1 .left)

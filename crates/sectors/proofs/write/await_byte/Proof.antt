@@ -12,7 +12,7 @@ await-byte-spec =
     tie.close
     (tie.spec
     (λ c κs. search needs)
-    (λ c. simp (c .before .before .if1 .taken, le-leb _ _ (c .before .if2 .taken)) (c .move-fails .ensures))
+    (λ c. simp (c .before .before .if1 .taken, le-leb _ _ (c .before .if2 .taken)) (c .late-end .ensures))
     (λ c. search needs) (λ c κs. search needs)
     (λ c. simp (c .before .before .if1 .taken, lt-leb _ _ (c .before .if2 .left)) (c .moves .ensures))
     (λ c κs. search needs) (λ c κs. search needs) (λ c κs. search needs)

@@ -13,4 +13,4 @@ dry-spec =
     (λ c κs. search needs)
     (λ c. yes _ _ (c .before .if1 .taken) (c .put .ensures))
     (λ c κs. search needs)
-    (λ c. no _ _ (c .before .if1 .left) (c .underrun-end .ensures)))
+    (λ c. no _ _ (c .before .if1 .left) (c .run-under .ensures)))

@@ -11,8 +11,8 @@ unfolding takenOf
 taken-spec =
     tie.close
     (tie.spec
-    (λ c κs. search needs) (λ c κs. search needs)
-    (λ c. rw (c .before .before .if1 .taken) (c .flagged .ensures ∙ rw (c .before .empty .ensures)))
+    (λ c κs. search needs)
+    (λ c. rw (c .before .if1 .taken) (c .shut .ensures))
     (λ c κs. search needs) (λ c κs. search needs)
     (λ c. rw (c .before .before .before .before .if1 .left)
-    (c .flagged2 .ensures ∙ rw (c .before .before .before .popped .ensures))))
+    (c .flagged .ensures ∙ rw (c .before .before .before .popped .ensures))))
