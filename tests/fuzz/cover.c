@@ -33,6 +33,19 @@ static bool is(const struct ending *e, enum command c, uint8_t ic, uint8_t st1)
 
 static bool at_eot(const struct execution *x) { return x->id.r == x->eot; }
 
+static bool from_host(enum command c) { return c == WRITE_DATA || c == WRITE_DELETED || c == FORMAT; }
+
+static bool other_kind(const struct execution *x)
+{
+    return (x->mark == 2 || x->mark == 4) != (x->command == READ_DELETED);
+}
+
+/* 02 2026-02: a byte was missing in a write, or a read found the FIFO full; the sector in hand is run to its end */
+static bool late(const struct execution *x) { return x->st1 != 0; }
+
+/* late in the last sector of side 0, where MT would turn */
+static bool late_at_turn(const struct execution *x) { return late(x) && at_eot(x) && x->mt && x->side == 0; }
+
 /* an image emptied or changed under a command, and not what the stage itself would end with */
 static bool emptied(const struct ending *e, enum command c)
 {
@@ -65,6 +78,18 @@ static void next_rows(const char *g, const struct ending *e, enum command c)
     row(g, "80 EOT with MT, side 1", eot && e->x->mt);
 }
 
+static void overrun_rows(const char *g, const struct ending *e, enum command c)
+{
+    bool good = is(e, c, 0x40, 0x10) && late(e->x), broken = is(e, c, 0x40, 0x30);
+    row(g, "10 overrun", good && e->st2 == 0);
+    row(g, "10 overrun at EOT", good && at_eot(e->x) && !e->x->mt);
+    row(g, "10 overrun at EOT with MT, side 0", good && late_at_turn(e->x));
+    row(g, "10 40 overrun, other kind", good && e->st2 == 0x40 && other_kind(e->x));
+    row(g, "30 20 overrun, broken", broken && e->st2 == 0x20);
+    row(g, "30 60 overrun, broken of the other kind", broken && e->st2 == 0x60 && other_kind(e->x));
+    row(g, "11 emptied after an overrun", is(e, c, 0x40, 0x11));
+}
+
 static void read_rows(const char *g, const struct ending *e, enum command c)
 {
     search_rows(g, e, c);
@@ -77,8 +102,8 @@ static void read_rows(const char *g, const struct ending *e, enum command c)
     row(g, "20 20 broken", is(e, c, 0x40, 0x20) && e->st2 == 0x20);
     row(g, "20 60 broken of the other kind", is(e, c, 0x40, 0x20) && e->st2 == 0x60);
     row(g, "20 20 broken, after TC", is(e, c, 0x40, 0x20) && e->x->tc);
-    row(g, "10 overrun", is(e, c, 0x40, 0x10) && e->stage == READING);
-    row(g, "10 the 64th look", is(e, c, 0x40, 0x10) && e->stage == DRAINING);
+    row(g, "10 the 64th look", is(e, c, 0x40, 0x10) && !late(e->x));
+    overrun_rows(g, e, c);
 }
 
 static void write_rows(const char *g, const struct ending *e, enum command c)
@@ -88,7 +113,10 @@ static void write_rows(const char *g, const struct ending *e, enum command c)
     row(g, "80 EOT, TC with bytes left", is(e, c, 0x40, 0x80) && e->x->tc && e->left > 0);
     row(g, "02 protected", is(e, c, 0x40, 0x02));
     row(g, "10 the 64th wait", is(e, c, 0x40, 0x10) && e->stage == AWAITING);
-    row(g, "10 underrun", is(e, c, 0x40, 0x10) && e->stage == WRITING);
+    row(g, "10 a byte missing", is(e, c, 0x40, 0x10) && late(e->x));
+    row(g, "10 a byte missing at EOT", is(e, c, 0x40, 0x10) && late(e->x) && at_eot(e->x) && !e->x->mt);
+    row(g, "10 a byte missing at EOT with MT, side 0", is(e, c, 0x40, 0x10) && late_at_turn(e->x));
+    row(g, "11 emptied after a missing byte", is(e, c, 0x40, 0x11));
 }
 
 static void format_rows(const struct ending *e, uint8_t head)
@@ -137,7 +165,7 @@ static void sector_rows(const struct moment *t, const struct ending *e)
         waited = looked = 0;
     bool dma = !(t->before->specify[1] & 1);
     bool failed = e->is && e->st1 != 0 && e->st1 != 0x80;
-    bool read = left_stage(t, READING) && !failed, written = left_stage(t, WRITING) && !failed;
+    bool read = left_stage(t, READING) && !failed && !late(y), written = left_stage(t, WRITING) && !failed;
     bool goes_on = t->after->phase == EXECUTING;
     row(g, "read by DMA", read && dma);
     row(g, "read by non-DMA", read && !dma);
@@ -165,6 +193,36 @@ static void sector_rows(const struct moment *t, const struct ending *e)
     row(g, "search begun past slot 0",
         goes_on && y->stage == SEARCHING && x->stage != SEARCHING && x->stage != FIRST_TESTS && y->slot > 0);
     row(g, "a byte from slot 1 or later", ticked(t) && x->stage == READING && y->moved > x->moved && x->slot > 0);
+}
+
+/* 02 2026-02, besides the rows of the four commands */
+static void late_rows(const struct moment *t, const struct ending *e)
+{
+    const char *g = "Late hosts";
+    const struct execution *x = &t->before->execution, *y = &t->after->execution;
+    bool dma = !(t->before->specify[1] & 1), broken = x->mark == 3 || x->mark == 4;
+    bool goes_on = t->before->phase == EXECUTING && t->after->phase == EXECUTING;
+    bool begins = goes_on && !late(x) && late(y), missing = begins && x->stage == WRITING;
+    bool zeros = left_stage(t, WRITING) && late(x) && e->st1 == 0x10;
+    bool run_on = left_stage(t, READING) && late(x) && goes_on;
+    bool refused = t->before->phase == EXECUTING && late(x) && (t->word & 0xFF00) != 0;
+    row(g, "a byte missing, FIFO off", missing && t->before->efifo);
+    row(g, "a byte missing, FIFO on", missing && !t->before->efifo);
+    row(g, "only the last byte missing", missing && y->moved == 128u << y->header[SIZE_N]);
+    row(g, "zeros up to the good mark, DMA", zeros && dma);
+    row(g, "zeros up to the good mark, non-DMA", zeros && !dma);
+    row(g, "an overrun, FIFO off", begins && x->stage == READING && t->before->efifo);
+    row(g, "an overrun, FIFO on", begins && x->stage == READING && !t->before->efifo);
+    row(g, "only the last byte lost", begins && y->stage == DRAINING);
+    row(g, "run to the sector's end, DMA", run_on && dma);
+    row(g, "run to the sector's end, non-DMA", run_on && !dma);
+    row(g, "an overrun after a skip, ST2 40", left_stage(t, DRAINING) && late(x) && e->st2 == 0x40 && !other_kind(x));
+    row(g, "emptied after an overrun, ST2 40", e->is && e->st1 == 0x11 && e->st2 == 0x40);
+    row(g, "a byte refused, write", refused && t->event->call == DMA_WRITE && from_host(x->command));
+    row(g, "a byte refused, read", refused && t->event->call == DMA_READ && !from_host(x->command));
+    row(g, "a byte refused, non-DMA", refused && t->event->a == 5 && !dma);
+    row(g, "in time, the 64th look at a broken sector",
+        left_stage(t, DRAINING) && e->st1 == 0x10 && !late(x) && broken);
 }
 
 static void request_rows(const struct moment *t)
@@ -369,6 +427,7 @@ void cover_watch(const struct moment *t)
     format_rows(&e, t->after->result[3]);
     read_id_rows(&e);
     sector_rows(t, &e);
+    late_rows(t, &e);
     request_rows(t);
     stepping_rows(t);
     command_rows(t);

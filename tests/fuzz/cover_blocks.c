@@ -153,6 +153,7 @@ static void record_rows(const struct moment *t)
     row(g, "reading", executes && x->stage == READING);
     row(g, "bytes to be taken", executes && x->stage == DRAINING);
     row(g, "writing", executes && x->stage == WRITING);
+    row(g, "in the rest of a sector after a late host", executes && x->st1 != 0);
     row(g, "formatting", executes && x->command == FORMAT && x->stage != FIRST_TESTS);
     row(g, "bytes in the FIFO", done && m->fifo.count > 1);
     row(g, "stepping", done && stepping);

@@ -15,6 +15,8 @@ static struct event tick(uint32_t n) { return event(TICK, 0, 0, n); }
 static struct event ticks(uint32_t n) { return event(TICKS, 0, 0, n); }
 
 static bool from_host(enum command c) { return c == WRITE_DATA || c == WRITE_DELETED || c == FORMAT; }
+/* 02 2026-02: ST1 10 is set, and the sector in hand is run to its end without the host */
+static bool is_late(const struct model *m) { return m->execution.st1 != 0; }
 static bool gate_on(const struct model *m) { return m->dor & 0x08; }
 
 enum { MANY_BLOCKS = 50 }; /* in 1000: few episodes have so many, since a block call ends what goes on */
@@ -65,8 +67,15 @@ struct event host_first_event(struct host *h, bool far)
 
 /* ---- how the next command will be served ---- */
 
+/* bytes before a sector's end: no more than the FIFO holds, or one more, so that a read's last one is lost */
+static unsigned near_end(const struct model *m)
+{
+    unsigned capacity = m->efifo ? 1 : FIFO_SIZE;
+    return chance(600) ? between(1, capacity) : capacity + 1;
+}
+
 /* `sectors`: how many the command asks for, if all are there */
-static void plan_service(struct host *h, unsigned sector, unsigned sectors)
+static void plan_service(struct host *h, const struct model *m, unsigned sector, unsigned sectors)
 {
     uint32_t k = below(100);
     h->moved = 0;
@@ -77,15 +86,20 @@ static void plan_service(struct host *h, unsigned sector, unsigned sectors)
     if (k >= 87) /* nothing more from somewhere on, or when a sector's last bytes are in the FIFO of a read */
         h->stops = k < 90 ? between(0, 2 * sector) : sector * between(1, sectors) - between(1, 12) % sector;
     k = below(100);
-    h->tc_at = k < 35   ? sector * between(1, sectors)
+    h->tc_at = k < 15   ? sector * sectors
+               : k < 35 ? sector * between(1, sectors)
                : k < 55 ? sector * sectors + between(1, 15)
-               : k < 62 ? between(1, sector * sectors)
-               : k < 66 ? between(1, 3)
+               : k < 60 ? between(1, sector * sectors)
+               : k < 63 ? between(1, 3)
                : k < 70 ? sector + between(1, 20)
                         : 0;
     h->trickle = h->pause > 0 && chance(250);
     if (h->pause > 0 && chance(700)) /* several sectors, each with its pause */
         h->tc_at = 0;
+    if (chance(110)) { /* it stops inside a sector, and there is no TC */
+        h->stops = sector * between(1, sectors) - (chance(500) ? near_end(m) % sector : between(1, sector - 1));
+        h->tc_at = 0;
+    }
 }
 
 /* ---- commands ---- */
@@ -158,8 +172,10 @@ static uint8_t side_for(const struct world *w, uint8_t drive)
 
 struct wanted { struct address id; uint8_t mark, highest; unsigned size; };
 
-/* an address that stands on the track, mostly */
-static struct wanted any_wanted(const struct world *w, uint8_t drive, uint8_t side)
+static bool is_broken(uint8_t mark) { return mark == 3 || mark == 4; }
+
+/* an address that stands on the track, mostly; `broken`: of a broken sector, if there is one */
+static struct wanted any_wanted(const struct world *w, uint8_t drive, uint8_t side, bool broken)
 {
     const uint8_t *track = track_of(w, drive, side);
     struct wanted a = { { any_byte(), side, (uint8_t)below(8), 1 }, 1, 8, 256 };
@@ -173,7 +189,8 @@ static struct wanted any_wanted(const struct world *w, uint8_t drive, uint8_t si
         const uint8_t *slot = track + 5 + (first + i) % header[SLOTS] * slot_size;
         if (slot[3] > a.highest || i == 0)
             a.highest = slot[3];
-        if (i == 0 || (a.mark == 0 || a.mark > 5 || a.id.n != header[SIZE_N])) {
+        bool better = broken && is_broken(slot[0]) && !is_broken(a.mark);
+        if (i == 0 || better || (a.mark == 0 || a.mark > 5 || a.id.n != header[SIZE_N])) {
             a.mark = slot[0];
             a.id = (struct address){ slot[1], slot[2], slot[3], slot[4] };
         }
@@ -196,10 +213,11 @@ static uint8_t any_eot(const struct wanted *a)
 static void send_data_command(struct host *h, const struct world *w, bool write)
 {
     uint8_t drive = useful_drive(w), side = side_for(w, drive);
-    struct wanted a = any_wanted(w, drive, side);
+    bool broken = !write && chance(200);
+    struct wanted a = any_wanted(w, drive, side, broken);
     bool deleted = a.mark == 2 || a.mark == 4;
     bool skipping = !write && chance(200); /* past this sector, and TC at the end of the next */
-    if (skipping || chance(write ? 500 : 250))
+    if (skipping || chance(write ? 500 : broken ? 400 : 250))
         deleted = !deleted;
     uint8_t code = write ? (deleted ? 0x49 : 0x45) : (deleted ? 0x4C : 0x46);
     if (chance(500))
@@ -208,8 +226,15 @@ static void send_data_command(struct host *h, const struct world *w, bool write)
         code |= 0x20;
     SEND(h, code, (uint8_t)(side << 2 | drive | (chance(50) ? 0xF8 : 0)), a.id.c, a.id.h, a.id.r, a.id.n, any_eot(&a),
          any_byte(), any_byte());
-    uint8_t sectors = (uint8_t)(h->command[6] - a.id.r);
-    plan_service(h, a.size, sectors < 4 ? sectors + 1u : 2);
+    uint8_t more = (uint8_t)(h->command[6] - a.id.r);
+    unsigned sectors = more < 4 ? more + 1u : 2;
+    plan_service(h, &w->model, a.size, sectors);
+    if (write && h->tc_at > a.size * sectors && chance(700)) /* EOT is to end it, with bytes left */
+        h->command[0] &= 0x7F;
+    if (broken && chance(400)) {
+        h->stops = a.size - near_end(&w->model);
+        h->tc_at = 0;
+    }
     if (skipping) {
         h->command[6] = chance(500) ? a.highest : (uint8_t)(a.id.r + 1);
         h->serve = 1000;
@@ -228,7 +253,7 @@ static void send_format(struct host *h, const struct world *w)
     }
     uint8_t sc = chance(550) ? slots : (uint8_t)below(slots + 2u);
     SEND(h, 0x4D, (uint8_t)(side << 2 | drive), chance(930) ? n : (uint8_t)below(5), sc, any_byte(), any_byte());
-    plan_service(h, 4, sc ? sc : 1);
+    plan_service(h, &w->model, 4, sc ? sc : 1);
 }
 
 /* a Format that the first tests end; its result names the physical head */
@@ -459,6 +484,27 @@ static struct event disturbance(const struct world *w)
     }
 }
 
+/* The host was late: the disk goes in the rest of the sector, or the host comes back with a byte, maybe TC. */
+static struct event too_late(const struct world *w)
+{
+    const struct model *m = &w->model;
+    uint8_t drive = m->execution.drive & 1;
+    bool in = from_host(m->execution.command);
+    switch (below(8)) {
+    case 0:
+        return event(SWAP, drive, 0, below(POOL));
+    case 1:
+        return write_port(2, (uint8_t)(m->dor & ~(0x10 << drive)));
+    case 2:
+        return event(POKE, drive, (uint8_t)between(1, 3), between(3, 7));
+    default:
+        break;
+    }
+    if (m->specify[1] & 1)
+        return in ? write_port(5, any_byte()) : read_port(5);
+    return in ? event(DMA_WRITE, any_byte(), (uint8_t)below(2), 0) : event(DMA_READ, (uint8_t)below(2), 0, 0);
+}
+
 /* ---- block calls ---- */
 
 /* a drive whose image has blocks, mostly */
@@ -540,11 +586,12 @@ static struct event serve(struct host *h, const struct model *m)
 static struct event let_time_pass(const struct host *h, const struct model *m)
 {
     bool hears = gate_on(m) && !m->fifo.asks && (!any_report(m) || !(m->specify[1] & 1));
-    if (h->serve == 1000 && h->moved < h->stops)
+    bool served = h->moved < h->stops && !is_late(m);
+    if (h->serve == 1000 && served)
         return hears && chance(500) ? ticks(below(100)) : tick(1);
-    if (h->serve > 0 && h->moved < h->stops)
+    if (h->serve > 0 && served)
         return tick(between(1, chance(800) ? 3 : 20));
-    return chance(500) ? tick(between(1, 70)) : ticks(between(1, 70));
+    return chance(is_late(m) ? 200 : 500) ? tick(between(1, 70)) : ticks(between(1, 70));
 }
 
 /* A host that pauses serves a write's or format's sector only after so many waits, and takes a read's last bytes only after
@@ -564,6 +611,8 @@ static struct event while_executing(struct host *h, const struct world *w)
     const struct model *m = &w->model;
     if (chance(h->disturb))
         return disturbance(w);
+    if (is_late(m) && chance(70))
+        return too_late(w);
     if (h->blocks > 0 && m->execution.stage == DRAINING && m->fifo.count > 0 && chance(25)) /* it does not last long */
         return block_call(h, w);
     if (chance(20))

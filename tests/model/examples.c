@@ -1,5 +1,6 @@
-/* The checked examples of document 01, played through the library's interface: on the model they show that it read the
- * document right, on the library that it did. One line for each example; status 1 if one fails. */
+/* The checked examples of document 01, and some of 02's requests, played through the library's interface: on the model
+ * they show that it read the documents right, on the library that it did. One line for each example; status 1 if one
+ * fails. */
 #include <stdbool.h>
 #include <stdio.h>
 #include <stdlib.h>
@@ -222,6 +223,134 @@ static void stores(unsigned count, uint8_t mark, unsigned bytes)
         expect(image[18 + i] == (i < bytes ? 0xE5 : 0x00));
 }
 
+/* ---- 02 2026-02, the short save ---- */
+
+static uint8_t saved(unsigned i) { return (uint8_t)(i % 251 + 1); }
+
+static uint8_t *slot_of(unsigned k) { return image + 13 + k * (5 + (128u << image[6])); }
+
+/* bytes handed over while DRQ is on and then none, with no TC; the last tick stores the last of them */
+static void save(uint8_t code, uint8_t eot, unsigned count)
+{
+    start(0);
+    SEND(code, 0x00, 0x00, 0x00, 0x01, image[6], eot, 0x1B, 0xFF);
+    for (unsigned i = 0; i <= count; i++) {
+        uint32_t word = 0;
+        while (!(word & (INT_LINE | DRQ_LINE)))
+            word = tick();
+        expect(word & DRQ_LINE);
+        if (i < count)
+            bel_dma_write(record, sizeof record, saved(i), 0);
+    }
+}
+
+/* so many bytes of the save, those after `before`, and zeros behind them */
+static void expect_slot(unsigned slot, uint8_t mark, unsigned before, unsigned bytes)
+{
+    expect(slot_of(slot)[0] == mark);
+    for (unsigned i = 0; i < 128u << image[6]; i++)
+        expect(slot_of(slot)[5 + i] == (i < bytes ? saved(before + i) : 0));
+}
+
+/* the sector in hand is filled up: the first zero falls in the tick that misses a byte, the good mark in the last */
+static void finished(unsigned slot, uint8_t mark, unsigned before, unsigned bytes)
+{
+    unsigned zeros = (128u << image[6]) - bytes;
+    expect(!(tick() & (DRQ_LINE | INT_LINE)));
+    expect(bel_dma_write(record, sizeof record, 0x99, 1) == 3u << 8); /* no byte follows, and no TC */
+    expect(!(ticks(zeros - 1) & INT_LINE));
+    expect_slot(slot, mark + 2, before, bytes);
+    expect(tick() & INT_LINE);
+    expect_slot(slot, mark, before, bytes);
+}
+
+/* of any length that leaves a sector short */
+static void short_save(unsigned count)
+{
+    uint8_t last = (uint8_t)(count / 256);
+    make_image(1, 1, 2, 1);
+    memset(slot_of(last) + 5, 0xE5, 256);
+    save(0x45, 2, count);
+    finished(last, 1, last * 256u, count % 256);
+    EXPECT(0x40, 0x10, 0x00, 0x00, 0x00, last + 1, 0x01); /* at EOT too: no 80, and the address is not the next one */
+    if (last > 0)
+        expect_slot(0, 1, 0, 256);
+}
+
+static void short_saves(void)
+{
+    for (unsigned count = 1; count < 512; count++) /* 300 among them, the club's */
+        if (count != 256)
+            short_save(count);
+    make_image(1, 1, 2, 2);
+    memset(slot_of(0) + 5, 0xE5, 512);
+    save(0x45, 2, 300);
+    finished(0, 1, 0, 300);
+    EXPECT(0x40, 0x10, 0x00, 0x00, 0x00, 0x01, 0x02);
+    make_image(1, 2, 1, 1);
+    save(0xC9, 1, 44); /* deleted; MT on side 0 makes no turn */
+    finished(0, 2, 0, 44);
+    EXPECT(0x40, 0x10, 0x00, 0x00, 0x00, 0x01, 0x01);
+}
+
+/* the first byte of a sector is taken and the second is not: the tick of the third finds the FIFO full */
+static void overrun(uint8_t mark, uint8_t st1, uint8_t st2)
+{
+    make_image(1, 2, 1, 1);
+    image[13] = mark;
+    start(0);
+    SEND(0xC6, 0x00, 0x00, 0x00, 0x01, 0x01, 0x01, 0x1B, 0xFF);
+    expect(ticks(3) & DRQ_LINE);
+    bel_dma_read(record, sizeof record, 0);
+    expect(tick() & DRQ_LINE);
+    expect(!(tick() & (DRQ_LINE | INT_LINE)));
+    expect(bel_dma_read(record, sizeof record, 1) == 3u << 8);
+    expect(!(ticks(256 - 3) & INT_LINE)); /* the lost byte's tick was the third of 256 */
+    expect(tick() & INT_LINE);
+    EXPECT(0x40, st1, st2, 0x00, 0x00, 0x01, 0x01);
+}
+
+/* the waits stay: before a sector's first byte, and after a read's last, where a broken mark adds nothing */
+static void waits(void)
+{
+    make_image(1, 1, 2, 1);
+    save(0x45, 2, 256);
+    ticks(2); /* the good mark, and slot 1 */
+    expect(!(ticks(63) & INT_LINE));
+    expect(tick() & INT_LINE);
+    EXPECT(0x40, 0x10, 0x00, 0x00, 0x00, 0x02, 0x01);
+    expect(slot_of(1)[0] == 1 && slot_of(1)[6] == 2);
+    slot_of(0)[0] = 3;
+    SEND(0x46, 0x00, 0x00, 0x00, 0x01, 0x01, 0x02, 0x1B, 0xFF);
+    uint32_t word = ticks(3);
+    for (unsigned i = 0; i < 255; i++) {
+        expect(word & DRQ_LINE);
+        bel_dma_read(record, sizeof record, 0);
+        word = tick();
+    }
+    expect(!(ticks(63) & INT_LINE));
+    expect(tick() & INT_LINE);
+    EXPECT(0x40, 0x10, 0x00, 0x00, 0x00, 0x01, 0x01);
+}
+
+/* what is set stays set: a disk pulled, or its motor off, in the rest of the sector, which stays broken */
+static void gone(bool pulled)
+{
+    make_image(1, 1, 2, 1);
+    memset(slot_of(0) + 5, 0xE5, 256);
+    save(0x45, 2, 44);
+    ticks(101);
+    if (pulled)
+        length = 0;
+    else
+        write_port(2, 0x0C);
+    expect(tick() & INT_LINE);
+    EXPECT(0x40, 0x11, 0x00, 0x00, 0x00, 0x01, 0x01);
+    expect(slot_of(0)[0] == 3);
+    for (unsigned i = 44; i < 256; i++)
+        expect(slot_of(0)[5 + i] == (i < 44 + 101 ? 0x00 : 0xE5));
+}
+
 static void port_log(void)
 {
     bel_power_on(record, sizeof record, 0, 0);
@@ -268,6 +397,18 @@ int main(void)
     stores(100, 3, 99);
     stores(258, 1, 256);
     example("10, stores");
+    short_saves();
+    example("2026-02, short saves");
+    overrun(1, 0x10, 0x00);
+    overrun(3, 0x30, 0x20);
+    overrun(2, 0x10, 0x40);
+    overrun(4, 0x30, 0x60);
+    example("2026-02, overruns");
+    waits();
+    example("2026-02, the waits stay");
+    gone(true);
+    gone(false);
+    example("2026-02, a disk gone after a missing byte");
     port_log();
     example("portlog");
     free(image);

@@ -171,7 +171,7 @@ static void end(struct model *m, uint8_t ic, uint8_t st1, uint8_t st2, struct ad
 {
     const struct execution *x = &m->execution;
     uint8_t st0 = (uint8_t)(ic | x->side << 2 | x->drive);
-    uint8_t bytes[7] = { st0, st1, st2 | x->st2, a.c, a.h, a.r, a.n };
+    uint8_t bytes[7] = { st0, st1 | x->st1, st2 | x->st2, a.c, a.h, a.r, a.n };
     fifo_clear(&m->fifo);
     give_result(m, bytes, 7, true);
 }
@@ -354,16 +354,27 @@ static void search(struct model *m, const uint8_t *slot)
         await_byte(x);
 }
 
+/* 02 2026-02: a missing byte in a write and a full FIFO in a read no longer end the command, but set ST1 10 and put
+ * the request off for good. So the FIFO stays empty and TC cannot follow; the sector in hand is run to its end, and
+ * the command ends with it: "The address stays that of the sector in hand". */
+static bool is_late(const struct execution *x) { return x->st1 & 0x10; }
+
+static void be_late(struct model *m)
+{
+    m->execution.st1 |= 0x10;
+    fifo_clear(&m->fifo);
+}
+
+/* after TC, and once late, a byte has its tick and goes nowhere; so has the byte that finds no room */
 static void read_byte(struct model *m, const uint8_t *slot)
 {
     struct execution *x = &m->execution;
     bool last = x->moved + 1u == sector_size(x->header);
-    if (!x->tc) {
-        if (m->fifo.count == capacity(m)) {
-            fail(m, 0x10, 0);
-            return;
-        }
-        disk_puts(m, slot[5 + x->moved], last);
+    if (!x->tc && !is_late(x)) {
+        if (m->fifo.count == capacity(m))
+            be_late(m);
+        else
+            disk_puts(m, slot[5 + x->moved], last);
     }
     x->moved++;
     if (last) {
@@ -382,6 +393,8 @@ static void drain(struct model *m)
     }
     if (is_broken(x->mark))
         fail(m, 0x20, 0x20);
+    else if (is_late(x))
+        fail(m, 0, 0);
     else if (is_deleted(x->mark) != (x->command == READ_DELETED))
         end(m, 0x00, 0, 0, x->id);
     else
@@ -407,18 +420,20 @@ static void await(struct model *m, uint8_t *slot)
     }
 }
 
+/* after TC, and from the tick on that misses a byte, the rest of the sector is zeros */
 static void write_byte(struct model *m, uint8_t *slot)
 {
     struct execution *x = &m->execution;
     if (x->moved == sector_size(x->header)) {
         slot[0] = x->command == WRITE_DATA ? 1 : 2;
-        next(m);
+        if (is_late(x))
+            fail(m, 0, 0);
+        else
+            next(m);
         return;
     }
-    if (m->fifo.count == 0 && !x->tc) {
-        fail(m, 0x10, 0);
-        return;
-    }
+    if (m->fifo.count == 0 && !x->tc)
+        be_late(m);
     slot[5 + x->moved] = m->fifo.count > 0 ? disk_takes(m) : 0;
     x->moved++;
 }

@@ -1,5 +1,6 @@
-/* An independent model of document 01, for tests only. It was written from the document and its settled readings, without
- * looking at the library, so that a difference between the two shows where one of them misread a sentence.
+/* An independent model of document 01, as the requests of 02 amend it, for tests only. It was written from the
+ * documents and their settled readings, without looking at the library, so that a difference between the two shows
+ * where one of them misread a sentence.
  *
  * The state is a plain struct that tests may look into. Each call returns the library's word: value in bits 0 to 7,
  * refusal in 8 to 15, INT in 16, DRQ in 17. The model has no refusal 4: no state reached by calls earns it. */
@@ -72,7 +73,7 @@ struct execution {
     uint8_t mark;                 /* as the match saw it */
     uint16_t moved;               /* ticks of the sector's bytes so far */
     uint8_t wait;
-    uint8_t st2;                  /* what stands in every later end */
+    uint8_t st1, st2;             /* what stands in every later end */
 };
 
 struct model {
