@@ -1,5 +1,6 @@
-# `make demo` shows a save, a power cut and what comes after it; `make test` is the gate; `make fuzz CALLS=..` runs the
-# library beside the independent model; `make bench` measures the two; `make mutants` asks the statements of wrong boxes.
+# `make demo` shows a save, a power cut, a short save and what comes after each; `make test` is the gate; `make fuzz
+# CALLS=..` runs the library beside the independent model; `make bench` measures the two; `make mutants` asks the
+# statements of wrong boxes.
 .PHONY: demo test fuzz bench library mutants
 
 CALLS ?= 10000000
