@@ -30,7 +30,8 @@ use Rattle.demands.proofs.HandedOverLaws as handing
 use Rattle.demands.proofs.HandedStream.{Flow, flows, ended}
 use Rattle.demands.proofs.PowerCutLaws as cutting
 use Rattle.demands.proofs.QuietLaws.{quiet-real, quiet-after, quiet-its}
-use Rattle.demands.proofs.ShortLaws.{none-given-off, not-on}
+use Rattle.demands.proofs.CutLaws.{not-on}
+use Rattle.demands.proofs.ShortLaws.{none-given-off}
 use mathlib.Core.Logic.{_⊎_, inl, inr}
 use native.Mathlib.Omega.{arith}
 use lib.Dec.{eqb}

@@ -13,8 +13,7 @@ use Rattle.image.proofs.TestLaws.{by-test}
 use Rattle.image.specs.declared.disk.Disk.{Disk}
 use Rattle.image.specs.declared.disk.Disk.the-variants.{Absent, Present}
 use Rattle.image.specs.declared.layout.Geometry.{Geometry}
-use Rattle.image.specs.declared.lent.Effect.{Effect}
-use Rattle.image.specs.declared.lent.Effect.the-variants.{Nothing, Store}
+use Rattle.image.specs.declared.lent.Effect.the-variants.{Store}
 use Rattle.image.specs.declared.slot.Id.{Id}
 use Rattle.image.specs.Lent.{pickOf}
 use Rattle.chip.specs.declared.fifo.Fifo.{Fifo}
@@ -34,13 +33,13 @@ use Rattle.sectors.specs.declared.work.Then.the-variants.{Ends, Works}
 use Rattle.sectors.specs.declared.work.Verdict.{Verdict}
 use Rattle.sectors.specs.declared.work.Work.{Work}
 use Rattle.sectors.specs.declared.work.Work.the-variants.{Identifying, Moving, Formatting}
-use Rattle.sectors.specs.Result.{lateBit, endOf, moveEnd, moveFails}
+use Rattle.sectors.specs.Result.{endOf, moveEnd, moveFails}
 use Rattle.sectors.specs.Track.{hasTrack, staysOf, markPlace, dataPlace}
 use Rattle.engine.specs.First.{changes, gateOf, movingOf, startJob, enteredOf, beginOf}
 use Rattle.engine.specs.Step.{lostOf, workStep, goOnOf}
 use Rattle.fdc.specs.declared.record.Controller.{Controller}
 use Rattle.fdc.specs.declared.record.Phase.{Phase}
-use Rattle.fdc.specs.declared.record.Phase.the-variants.{Starting, Working, Answering}
+use Rattle.fdc.specs.declared.record.Phase.the-variants.{Starting, Working}
 use Rattle.fdc.specs.declared.ticks.Decision.{Decision}
 use Rattle.fdc.specs.Answer.{answerOf}
 use Rattle.fdc.specs.Commands.{answeredOf}
@@ -50,14 +49,14 @@ use Rattle.reached.specs.Good.{Suits}
 use Rattle.reached.specs.Moves.{Calm, AllCalm}
 use Rattle.reached.specs.Runs.{Call, powers, reads, writes, takes, gives, ticks, notes, answerTo, after, runCalls}
 use Rattle.demands.specs.History.{Begun, no-one, some-of, History, noHistory, notedStore, historyBy, historyOf}
-use Rattle.demands.specs.PowerCut.{Writes, headOf}
+use Rattle.demands.specs.PowerCut.{headOf}
 use Rattle.demands.specs.Quiet.{Quiet}
 use Rattle.demands.specs.ShortSave.{sawBy, sawOf, lastSeen, metIn, NotThatDisk, no-disk, another, Pulled, OnlyCutsBreak}
 use Rattle.demands.specs.Work.{Real, atWork, Its}
 use Rattle.demands.proofs.CallLaws.{tick-starts, tick-works, call-rule, calm-keeps}
 use Rattle.demands.proofs.CallRules.{NoTick, Keeps, CallRule, cut-off, goes-on, same, took, gave}
 use Rattle.demands.proofs.CourseLaws.{same-geometry}
-use Rattle.demands.proofs.CutLaws.{noted-closed, some≢none}
+use Rattle.demands.proofs.CutLaws.{noted-closed, some≢none, lost-bits}
 use Rattle.demands.proofs.QuietLaws.{quiet-real, quiet-after}
 use Rattle.demands.proofs.SplitLaws.{tick-or-not}
 use Rattle.demands.proofs.TickRules.{
@@ -206,10 +205,6 @@ record Lost (o : Step) : Type 0 where
   verdict : Verdict
   ends : o .then ≡ Ends verdict
   bits : (verdict .st1 ≡ 0x01) ⊎ (verdict .st1 ≡ 0x11)
-
-lost-bits : (b : Bool) → (lateBit b + 0x01 ≡ 0x01) ⊎ (lateBit b + 0x01 ≡ 0x11)
-lost-bits true = inr refl
-lost-bits false = inl refl
 
 -- a later tick goes by its rule, or finds another disk
 abbrev Goes : Site → Disk → ℕ → History → Step → Type 0

@@ -50,7 +50,7 @@ use Rattle.demands.proofs.AddressLaws.{AllBehind, all-step, all-turn, o
 use Rattle.demands.proofs.FifoStream.{Open, Stream, dried, open-drawn, open-shut, stream-within, held-drawn, held-dry, held-more, held-none}
 use Rattle.demands.proofs.LeftLaws.{left-begins, left-puts, left-finishes}
 use Rattle.demands.proofs.RequestLaws.{test-on, test-off}
-use Rattle.demands.proofs.TickRules.{marked, hits, Fails, Waits, NextEnds, NextRule, stops, turns, steps, Rule, notFound, noData, noSide, late, misses, passes, toWrite, toRead, skips, turned-over, waits, begins, puts, pads, dries, ends-short, finishes, moves, moves-last, overruns, overruns-last, drains, data-error, ends-late, other-kind, drained}
+use Rattle.demands.proofs.TickRules.{marked, hits, Waits, NextEnds, NextRule, stops, turns, steps, Rule, notFound, noData, noSide, late, misses, passes, toWrite, toRead, skips, turned-over, waits, begins, puts, pads, dries, ends-short, finishes, moves, moves-last, overruns, overruns-last, drains, data-error, ends-late, other-kind, drained}
 
 -- the slot after the one used is one of the track's
 pub next-slot-below : (slot slots : ℕ) → 1 ≤ slots → nextSlot slot slots < slots
@@ -145,6 +145,15 @@ not-80 true x (inl y) z = omega arith
 not-80 true x (inr y) z = omega arith
 not-80 false x (inl y) z = omega arith
 not-80 false x (inr y) z = omega arith
+
+-- 01 Data commands: a drive emptied or header changed later, beside a late byte's 10
+pub lost-bits : (b : Bool) → (lateBit b + 0x01 ≡ 0x01) ⊎ (lateBit b + 0x01 ≡ 0x11)
+lost-bits true = inr refl
+lost-bits false = inl refl
+
+pub not-on : (b : Bool) → (b ≡ true → ⊥) → b ≡ false
+not-on true n = absurd (n refl)
+not-on false n = refl
 
 -- the number of the sector whose address the result gives
 pub shown-all : (g : Geometry) (h : History) → (h .told ≡ true) ⊎ (doneCount h * sizeOf (g .n) ≤ length (h .host))
@@ -654,10 +663,6 @@ module _ (g : Geometry) (cylinder drive : ℕ) (transfer : Transfer) (aim : Aim)
       waits-none (Awaiting slot wait) w k = k .1
       waits-none (Storing slot done) w k = absurd w
 
-      off : (t : Bool) → (t ≡ true → ⊥) → t ≡ false
-      off true n = absurd (n refl)
-      off false n = refl
-
       -- a tick of it, by its rule
       pub busy-rule : (o : Step) → FitsFifo efifo fifo → o ≡ stageOf stage site task cylinder img fifo efifo fifothr
           → Rule cylinder img efifo fifothr site task fifo stage o → OnStep efifo o img h
@@ -745,7 +750,7 @@ module _ (g : Geometry) (cylinder drive : ℕ) (transfer : Transfer) (aim : Aim)
           (busy-puts (tardy task) slot done 0 shut (record { transfer = refl; other = refl; id = refl }) hand half l
           (sym (List·getD-eq-default (h .host) 0 none)) (open-shut efifo) (dried refl refl (omega arith))
           (λ x y. absurd (true≢false y)) (λ x. refl)
-          (λ x. (none, off (h .told) (λ y. true≢false (sym (b .heard y) ∙ t)))))
+          (λ x. (none, not-on (h .told) (λ y. true≢false (sym (b .heard y) ∙ t)))))
       busy-rule o f is (ends-short slot done verdict p l y st2 v e) =
           let (hand, half) = rw p at (b .link) in
           let note = noted-closed (markPlace site cylinder slot) (writtenMark false task) (here slot)

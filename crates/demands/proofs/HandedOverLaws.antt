@@ -73,7 +73,7 @@ use Rattle.demands.proofs.CallLaws.{tick-starts, tick-works, call-rule,
 use Rattle.demands.proofs.CallRules.{NoTick, MayTake, FifoRule, same, took, gave, TakenRule, none-taken, one-taken, Keeps, CallRule, cut-off, goes-on}
 use Rattle.demands.proofs.SplitLaws.{taking-or-not, may-calm, image-same, none-handed}
 use Rattle.demands.specs.Quiet.{Quiet}
-use Rattle.demands.proofs.CutLaws.{marked-counts, next-slot-below, matches-id, turned-has}
+use Rattle.demands.proofs.CutLaws.{marked-counts, next-slot-below, matches-id, turned-has, not-on}
 use Rattle.demands.proofs.HandedStream.{AsksSome, some-emptied, some-shut, some-taken, some-filled, size-some}
 use Rattle.demands.proofs.HandedStream.{Flow, flows, ended, flow-fresh, flow-got, flow-next, flow-most, flow-lost}
 use Rattle.demands.proofs.HandedStream.{flow-fill, flow-take, flow-skip}
@@ -116,10 +116,6 @@ other-one true true n = absurd (n refl)
 other-one true false n = refl
 other-one false true n = refl
 other-one false false n = absurd (n refl)
-
-not-on : (a : Bool) → (a ≡ true → ⊥) → a ≡ false
-not-on true n = absurd (n refl)
-not-on false n = refl
 
 or-first : (a b : Bool) → (a || b) ≡ false → a ≡ false
 or-first true b e = absurd (true≢false e)

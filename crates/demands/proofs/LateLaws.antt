@@ -1,11 +1,11 @@
 -- A byte that was late is told (specs/InTime): from the tick that finds it so, the sector in hand is run to its end,
 -- and every end from there on has ST1's bit 10.
 -- Assumes nothing.
-use Prim.Native.Nat.{ℕ, _+_, _<_, _≤_}
+use Prim.Native.Nat.{ℕ}
 use native.Mathlib.Omega.{arith}
 use mathlib.Core.Bool.{Bool, true, false, not, _&&_, true≢false, false≢true}
 use mathlib.Core.List.{List, [], _∷_}
-use mathlib.Core.Logic.{_⊎_, inl, inr}
+use mathlib.Core.Logic.{inl, inr}
 use mathlib.Core.Path.{_≡_, refl, sym, ap, _∙_}
 use borrow.Author.Tests.{eq-eqb, ne-eqb, le-leb, lt-leb}
 use Rattle.image.proofs.TestLaws.{by-test}
@@ -42,7 +42,7 @@ use Rattle.fdc.specs.Record.{withFifo, withPhase}
 use Rattle.fdc.specs.Ticks.{settledOf, decidedOf, ruledOf}
 use Rattle.reached.specs.Runs.{Call, powers, reads, writes, takes, gives, ticks, notes, after, runCalls}
 use Rattle.demands.specs.Acknowledged.{resultByte}
-use Rattle.demands.specs.InTime.{Late, Finds, FindsLate, SomeLate, lateIn, LateTold}
+use Rattle.demands.specs.InTime.{Late, FindsLate, SomeLate, lateIn, LateTold}
 use Rattle.demands.specs.Quiet.{Quiet}
 use Rattle.demands.specs.Work.{Real, atWork, Its}
 use Rattle.demands.proofs.CallLaws.{tick-starts, tick-works, after-tick, call-rule}

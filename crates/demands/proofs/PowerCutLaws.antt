@@ -58,7 +58,7 @@ use Rattle.demands.proofs.CallLaws.{tick-starts, tick-works, call-rule}
 use Rattle.demands.proofs.CallRules.{NoTick, FifoRule, same, took, gave, Keeps, CallRule, cut-off, goes-on}
 use Rattle.demands.proofs.SplitLaws.{tick-or-not, image-same}
 use Rattle.demands.specs.Quiet.{Quiet}
-use Rattle.demands.proofs.CutLaws.{some≢none, not-80, shown-all, Sofar, Busy, Says, OnThen, OnStep, ended-says, busy-rule}
+use Rattle.demands.proofs.CutLaws.{some≢none, not-80, lost-bits, shown-all, Sofar, Busy, Says, OnThen, OnStep, ended-says, busy-rule}
 use Rattle.demands.proofs.FifoStream.{Open, open-opened, open-given, stream-fresh, stream-within, held-given}
 use Rattle.demands.proofs.LeftLaws.{left-fresh, left-handed}
 use Rattle.demands.proofs.QuietLaws.{quiet-real, quiet-after}
@@ -200,10 +200,6 @@ module _ (g : Geometry) (cylinder : ℕ) (order : Order) (transfer : Transfer) (
         st2 = otherBit (task .other) + 0x00;
         id = task .id;
       }
-
-  lost-bits : (late : Bool) → (lateBit late + 0x01 ≡ 0x01) ⊎ (lateBit late + 0x01 ≡ 0x11)
-  lost-bits true = inr refl
-  lost-bits false = inl refl
 
   -- A later tick.
   later-step : (efifo : Bool) (fifothr : ℕ) (site : Site) (task : Task) (stage : Stage) (fifo : Fifo) (img : List ℕ)

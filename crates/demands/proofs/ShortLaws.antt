@@ -1,11 +1,11 @@
 -- Once a byte of a write is missing none follows, and its sector is the last one (specs/ShortSave).
 -- Assumes nothing.
-use Prim.Native.Nat.{ℕ, suc, _+_, _*_, _<_, _≤_}
+use Prim.Native.Nat.{ℕ, _+_, _*_, _<_, _≤_}
 use native.Mathlib.Omega.{arith}
 use mathlib.Core.Bool.{Bool, true, false, true≢false, false≢true}
-use mathlib.Core.List.{List, [], _∷_, _++_}
+use mathlib.Core.List.{List, [], _∷_}
 use mathlib.Core.Logic.{_⊎_, inl, inr}
-use mathlib.Core.Path.{_≡_, refl, sym, ap, _∙_}
+use mathlib.Core.Path.{_≡_, refl, sym, _∙_}
 use lib.Dec.{eqb}
 use lib.ListN.{length, length-append}
 use Rattle.image.proofs.TestLaws.{by-test, le-or-lt}
@@ -21,14 +21,15 @@ use Rattle.sectors.specs.declared.order.Pass.the-variants.{Write}
 use Rattle.sectors.specs.declared.order.Transfer.{Transfer}
 use Rattle.fdc.specs.declared.record.Controller.{Controller}
 use Rattle.fdc.specs.Ticks.{ruledOf}
-use Rattle.reached.specs.Runs.{Call, ticks, after, runCalls}
+use Rattle.reached.specs.Runs.{Call, after, runCalls}
 use Rattle.demands.specs.History.{Begun, no-one, some-of, History, noHistory, storedBy, notedStore, historyBy, historyOf}
 use Rattle.demands.specs.PowerCut.{Aim, LeftBy, BegunHalf, storedCount, sectorCount, Missing, passing, headOf}
 use Rattle.demands.specs.Quiet.{Quiet}
-use Rattle.demands.specs.ShortSave.{NoneFollows, ShortIsLast}
-use Rattle.demands.specs.Work.{Real, atWork, Its, Alone, Handed, imageBy, imageLeft}
+use Rattle.demands.specs.ShortSave.{ShortIsLast}
+use Rattle.demands.specs.Work.{Real, atWork, Its, Alone, imageBy, imageLeft}
 use Rattle.demands.proofs.CallLaws.{call-rule}
 use Rattle.demands.proofs.CallRules.{NoTick, CallRule, cut-off, goes-on, same, took, gave}
+use Rattle.demands.proofs.CutLaws.{not-on}
 use Rattle.demands.proofs.FifoStream.{stream-shut}
 use Rattle.demands.proofs.LeftLaws.{noted-host, noted-told}
 use Rattle.demands.proofs.PowerCutLaws.{Run, is-over, to-start, at-it, run-done, run-after, run-all, ran, proper}
@@ -45,10 +46,6 @@ none-given-off call c h q w n off = go (call-rule call c q w n)
     go (goes-on k (same f e)) = e h
     go (goes-on k (took tc m p f e)) = e h
     go (goes-on k (gave byte tc p a f e)) = absurd (true≢false (sym a ∙ off))
-
-pub not-on : (b : Bool) → (b ≡ true → ⊥) → b ≡ false
-not-on true n = absurd (n refl)
-not-on false n = refl
 
 -- a store leaves no fewer bytes stored, and no fewer sectors
 module _ (g : Geometry) (cylinder : ℕ) (transfer : Transfer) (aim : Aim) (old img : List ℕ) where
