@@ -1,5 +1,5 @@
--- Lists that are written out by a rule: what stands at each place is the rule's value there. The tables of codes and of
--- step times go by `at`, an array literal of an array's elements by `listed-drop`.
+-- Lists that are written out by a rule: what stands at each place is the rule's value there. A table goes by `at`, an
+-- array literal of an array's elements by `listed-drop`.
 -- Assumes nothing.
 use mathlib.Core.Path.{_≡_, _∙_, ap, sym}
 use mathlib.Core.List.{List}
