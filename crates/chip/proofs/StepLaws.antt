@@ -1,8 +1,13 @@
 -- Laws of the step times (01 Stepping).
 -- Assumes nothing.
+use mathlib.Core.Path.{refl}
 use Prim.Native.Nat.{ℕ, _≤_, _<_}
 use native.Mathlib.Omega.{arith}
-use Rattle.chip.specs.Stepping.{stepTicks}
+use Rattle.chip.specs.Stepping.{stepTicks, StepTimes}
+
+-- all sixteen, by computation
+pub step-times : StepTimes
+step-times = refl
 
 -- 01 Refusals 4: a step countdown is never above 1000
 pub step-most : (srt : ℕ) → stepTicks srt ≤ 1000
