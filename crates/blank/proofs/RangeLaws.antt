@@ -1,18 +1,11 @@
 -- What the test of the numbers tells (01 Image: cylinders 1-82, heads 1-2, slots 1-36, N 1-3, protect 0 or 1).
 -- Assumes nothing.
-use Prim.Native.Nat.{ℕ, _≤_}
+use Prim.Native.Nat.{ℕ}
 use mathlib.Core.Bool.{true}
 use mathlib.Core.Path.{_≡_}
-use lib.Dec.{leb}
-use borrow.Author.Tests.{leb-true}
-use Rattle.image.specs.Disk.{within, inRange, InRange}
+use Rattle.image.specs.Disk.{within, inRange, InRange, geometryOf}
+use Rattle.image.proofs.DiskLaws.{within-true}
 use Rattle.image.proofs.TestLaws.{both}
-use Rattle.blank.specs.Blank.{geometryOf}
-
-within-true : (low x high : ℕ) → within low x high ≡ true → (low ≤ x) × (x ≤ high)
-within-true low x high h =
-    let p = both (leb low x) (leb x high) h in
-    (leb-true low x (p .0), leb-true x high (p .1))
 
 pub range-true :
     (cylinders heads slots n protect : ℕ) → inRange cylinders heads slots n protect ≡ true

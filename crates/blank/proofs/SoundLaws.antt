@@ -12,7 +12,7 @@ use lib.Seq.{getD-append-add, getD-take, getD-drop, ext-getD}
 use Rattle.image.specs.declared.layout.Geometry.{Geometry}
 use Rattle.image.specs.declared.slot.Id.{Id}
 use Rattle.image.specs.Layout.{sizeOf, slotLength, trackLength, lengthOf, trackAt, offsetOf, Has}
-use Rattle.image.specs.Disk.{flag, headerOf, InRange, Fits, inRange}
+use Rattle.image.specs.Disk.{flag, headerOf, InRange, Fits, inRange, geometryOf}
 use Rattle.image.specs.Slot.{idAt, slotAt}
 use Rattle.image.specs.Sound.{Field, Track, markIn, NoTwins, Sound}
 use Rattle.image.proofs.LayoutLaws.{row-inside, slot-inside, length-ge}
@@ -25,7 +25,6 @@ use Rattle.blank.specs.Blank.{
   cylinderOf,
   tracksOf,
   blankOf,
-  geometryOf,
   takes,
 }
 use Rattle.blank.specs.Statements.{BlankSound, BlankSlot, BlankSlots, BlankMade}

@@ -7,7 +7,7 @@ use lib.Dec.{eqb}
 use lib.ListN.{length, replicate}
 use Rattle.image.specs.declared.layout.Geometry.{Geometry}
 use Rattle.image.specs.Layout.{sizeOf, lengthOf}
-use Rattle.image.specs.Disk.{inRange, flag}
+use Rattle.image.specs.Disk.{inRange, flag, geometryOf}
 
 -- one behind the other: f 0, f 1, .. up to n of them
 abbrev pub inTurn : (ℕ → List ℕ) → ℕ → List ℕ
@@ -41,10 +41,6 @@ unfoldable pub blankOf : Geometry → ℕ → List ℕ
 blankOf g fill =
     fieldOf 0x01 (g .cylinders ∷ g .heads ∷ g .slots ∷ g .n ∷ flag (g .protect) ∷ [])
     ++ (tracksOf g fill ++ fieldOf 0x03 [])
-
-abbrev pub geometryOf : ℕ → ℕ → ℕ → ℕ → ℕ → Geometry
-geometryOf cylinders heads slots n protect =
-    record { cylinders = cylinders; heads = heads; slots = slots; n = n; protect = eqb protect 1 }
 
 -- how long the image is; 0 where a number is out of range
 unfoldable pub sizeOfDisk : ℕ → ℕ → ℕ → ℕ → ℕ

@@ -6,10 +6,10 @@ use mathlib.Core.Path.{_≡_}
 use lib.ListN.{length, take, drop, replicate}
 use Rattle.image.specs.declared.layout.Geometry.{Geometry}
 use Rattle.image.specs.Layout.{sizeOf, offsetOf, Has}
-use Rattle.image.specs.Disk.{InRange}
+use Rattle.image.specs.Disk.{InRange, geometryOf}
 use Rattle.image.specs.Slot.{slotAt}
 use Rattle.image.specs.Sound.{Sound}
-use Rattle.blank.specs.Blank.{blankOf, geometryOf, madeOf, imageOf}
+use Rattle.blank.specs.Blank.{blankOf, madeOf, imageOf}
 
 -- of every geometry in range, protected or not, and whatever its bytes are
 abbrev pub BlankSound : Type 0

@@ -1,49 +1,23 @@
 // A blank disk by its numbers: how long its image is, and the image itself (02 2026-01).
 use crate::parts::put_bytes;
 use crate::parts::put_cylinders;
+use image::disk::geometry_of;
+use image::disk::ranges;
 use image::layout::Geometry;
 ghost use mathlib.Core.Path.{_≡_};
 ghost use Prim.Native.Nat.{_+_, _*_};
 ghost use mathlib.Core.List.{[], _++_};
 ghost use lib.ListN.{length};
-ghost use Rattle.image.specs.Disk.{within, inRange, flag, InRange};
+ghost use Rattle.image.specs.Disk.{flag, InRange};
 ghost use Rattle.image.specs.Layout.{lengthOf, trackLength};
-ghost use Rattle.blank.specs.Blank.{fieldOf, tracksOf, geometryOf, sizeOfDisk, madeOf, imageOf, blankOf};
-
-fn between(low: u8, x: u8, high: u8) -> bool
-    ensures { λ r. ⌜ r ≡ within low x high ⌝ }
-{
-    (low <= x) & (x <= high)
-}
-
-fn in_range(cylinders: u8, heads: u8, slots: u8, n: u8, protect: u8) -> bool
-    ensures { λ r. ⌜ r ≡ inRange cylinders heads slots n protect ⌝ }
-{
-    between(1, cylinders, 82)
-        & between(1, heads, 2)
-        & between(1, slots, 36)
-        & between(1, n, 3)
-        & between(0, protect, 1)
-}
-
-fn geometry(cylinders: u8, heads: u8, slots: u8, n: u8, protect: u8) -> Geometry
-    ensures { λ r. ⌜ r ≡ geometryOf cylinders heads slots n protect ⌝ }
-{
-    Geometry {
-        cylinders,
-        heads,
-        slots,
-        n,
-        protect: protect == 1,
-    }
-}
+ghost use Rattle.blank.specs.Blank.{fieldOf, tracksOf, sizeOfDisk, madeOf, imageOf, blankOf};
 
 // The length of the image that these numbers ask for; 0 where one is out of range.
 pub fn size_of_disk(cylinders: u8, heads: u8, slots: u8, n: u8) -> u32
     ensures { λ r. ⌜ r ≡ sizeOfDisk cylinders heads slots n ⌝ }
 {
-    if in_range(cylinders, heads, slots, n, 0) {
-        let g = geometry(cylinders, heads, slots, n, 0);
+    if ranges(cylinders, heads, slots, n, 0) {
+        let g = geometry_of(cylinders, heads, slots, n, 0);
         return g.length() as u32;
     }
     0
@@ -105,8 +79,8 @@ pub fn make_blank(
     ensures { λ r. ⌜ r ≡ madeOf (length (now (image .entry))) cylinders heads slots n protect ⌝ }
     ensures { λ _. ⌜ now (image .exit) ≡ imageOf (now (image .entry)) cylinders heads slots n protect fill ⌝ }
 {
-    let g = geometry(cylinders, heads, slots, n, protect);
-    if in_range(cylinders, heads, slots, n, protect) & (image.len() == g.length()) {
+    let g = geometry_of(cylinders, heads, slots, n, protect);
+    if ranges(cylinders, heads, slots, n, protect) & (image.len() == g.length()) {
         put_image(image, g, fill);
         return g.length() as u32;
     }

@@ -20,12 +20,12 @@ use Rattle.image.proofs.LayoutLaws.{product-le, size-le, length-ge}
 use Rattle.image.proofs.ListLaws.{listed-part}
 use Rattle.image.proofs.TestLaws.{by-test, both}
 
-within-true : (low x high : ℕ) → within low x high ≡ true → (low ≤ x) × (x ≤ high)
+pub within-true : (low x high : ℕ) → within low x high ≡ true → (low ≤ x) × (x ≤ high)
 within-true low x high h =
     let p = both (leb low x) (leb x high) h in
     (leb-true low x (p .0), leb-true x high (p .1))
 
-true-within : (low x high : ℕ) → (low ≤ x) × (x ≤ high) → within low x high ≡ true
+pub true-within : (low x high : ℕ) → (low ≤ x) × (x ≤ high) → within low x high ≡ true
 true-within low x high h = simp (le-leb low x (h .0), le-leb x high (h .1))
 
 flag-back : (b : Bool) → eqb (flag b) 1 ≡ b
@@ -65,7 +65,7 @@ module _ (img : List ℕ) (h : headerIn img ≡ true) where
       )
 
   -- the first eight bytes are the header of the geometry that they give
-  first-eight : 8 ≤ length img → take 8 img ≡ headerOf (geometryIn img)
+  pub first-eight : 8 ≤ length img → take 8 img ≡ headerOf (geometryIn img)
   unfolding geometryIn
   first-eight l =
       let ((t0, t1, t2), _, p) = header-parts in
@@ -88,22 +88,27 @@ present-fits img g =
     }))
     (λ _ q. let z : _≡_ {A = ℕ} 0 1 = cc in absurd (omega arith))
 
+-- the header of a geometry gives that geometry
+module _ (img : List ℕ) (g : Geometry) (f : take 8 img ≡ headerOf g) where
+  pub header-byte : (k : ℕ) → k < 8 → getD img k 0 ≡ getD (headerOf g) k 0
+  header-byte k h = sym (getD-take 8 img k 0 h) ∙ ap (λ (l : List ℕ). getD l k 0) f
+
+  pub header-geometry : geometryIn img ≡ g
+  unfolding geometryIn
+  header-geometry =
+      rw (
+        header-byte 3 (omega arith),
+        header-byte 4 (omega arith),
+        header-byte 5 (omega arith),
+        header-byte 6 (omega arith),
+        header-byte 7 (omega arith),
+        flag-back (g .protect),
+      )
+
 -- and an image that fits is answered with its disk
 module _ (img : List ℕ) (g : Geometry) (f : Fits g img) where
   byte : (k : ℕ) → k < 8 → getD img k 0 ≡ getD (headerOf g) k 0
-  byte k h = sym (getD-take 8 img k 0 h) ∙ ap (λ (l : List ℕ). getD l k 0) (f .header)
-
-  fits-geometry : geometryIn img ≡ g
-  unfolding geometryIn
-  fits-geometry =
-      rw (
-        byte 3 (omega arith),
-        byte 4 (omega arith),
-        byte 5 (omega arith),
-        byte 6 (omega arith),
-        byte 7 (omega arith),
-        flag-back (g .protect),
-      )
+  byte = header-byte img g (f .header)
 
   fits-header : headerIn img ≡ true
   unfolding headerIn
@@ -127,7 +132,7 @@ module _ (img : List ℕ) (g : Geometry) (f : Fits g img) where
 
   pub fits-present : diskIn img ≡ Present g
   unfolding diskIn
-  fits-present = rw (fits-geometry, fits-header, eq-eqb (length img) (lengthOf g) (f .size))
+  fits-present = rw (header-geometry img g (f .header), fits-header, eq-eqb (length img) (lengthOf g) (f .size))
 
 -- fewer bytes than a header hold no disk
 pub short-absent : (img : List ℕ) → length img < 8 → diskIn img ≡ Absent

@@ -26,16 +26,14 @@ headerIn img =
     (eqb (getD img 0 0) 0x01 && eqb (getD img 1 0) 0 && eqb (getD img 2 0) 5)
     && inRange (getD img 3 0) (getD img 4 0) (getD img 5 0) (getD img 6 0) (getD img 7 0)
 
+-- what five numbers say
+abbrev pub geometryOf : ℕ → ℕ → ℕ → ℕ → ℕ → Geometry
+geometryOf cylinders heads slots n protect =
+    record { cylinders = cylinders; heads = heads; slots = slots; n = n; protect = eqb protect 1 }
+
 -- what the header's five bytes say
 unfoldable pub geometryIn : List ℕ → Geometry
-geometryIn img =
-    record {
-      cylinders = getD img 3 0;
-      heads = getD img 4 0;
-      slots = getD img 5 0;
-      n = getD img 6 0;
-      protect = eqb (getD img 7 0) 1;
-    }
+geometryIn img = geometryOf (getD img 3 0) (getD img 4 0) (getD img 5 0) (getD img 6 0) (getD img 7 0)
 
 -- 01 Image: a disk exactly when the header is so and the image is exactly as long as it asks
 unfoldable pub diskIn : List ℕ → Disk

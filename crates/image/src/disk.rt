@@ -3,7 +3,7 @@ use crate::layout::Geometry;
 ghost use mathlib.Core.Path.{_≡_};
 ghost use lib.ListN.{length};
 ghost use Prim.Native.Nat.{_≤_};
-ghost use Rattle.image.specs.Disk.{within, inRange, headerIn, geometryIn, diskIn};
+ghost use Rattle.image.specs.Disk.{within, inRange, headerIn, geometryOf, geometryIn, diskIn};
 
 // What a slice is to a drive.
 pub enum Disk {
@@ -11,13 +11,14 @@ pub enum Disk {
     Present(Geometry),
 }
 
-fn between(low: u8, x: u8, high: u8) -> bool
+pub fn between(low: u8, x: u8, high: u8) -> bool
     ensures { λ r. ⌜ r ≡ within low x high ⌝ }
 {
     (low <= x) & (x <= high)
 }
 
-fn ranges(cylinders: u8, heads: u8, slots: u8, n: u8, protect: u8) -> bool
+// 01 Image: the header's five numbers, each in its range.
+pub fn ranges(cylinders: u8, heads: u8, slots: u8, n: u8, protect: u8) -> bool
     ensures { λ r. ⌜ r ≡ inRange cylinders heads slots n protect ⌝ }
 {
     between(1, cylinders, 82)
@@ -25,6 +26,19 @@ fn ranges(cylinders: u8, heads: u8, slots: u8, n: u8, protect: u8) -> bool
         & between(1, slots, 36)
         & between(1, n, 3)
         & between(0, protect, 1)
+}
+
+// What five numbers say of a disk; protect 1 is protected.
+pub fn geometry_of(cylinders: u8, heads: u8, slots: u8, n: u8, protect: u8) -> Geometry
+    ensures { λ r. ⌜ r ≡ geometryOf cylinders heads slots n protect ⌝ }
+{
+    Geometry {
+        cylinders,
+        heads,
+        slots,
+        n,
+        protect: protect == 1,
+    }
 }
 
 // Tag 01, length 5, and five bytes in range.
@@ -39,13 +53,7 @@ fn geometry_in(s: &[u8]) -> Geometry
     requires { ⌜ 8 ≤ length (now s) ⌝ }
     ensures { λ r. ⌜ r ≡ geometryIn (now (s .entry)) ⌝ }
 {
-    Geometry {
-        cylinders: s[3],
-        heads: s[4],
-        slots: s[5],
-        n: s[6],
-        protect: s[7] == 1,
-    }
+    geometry_of(s[3], s[4], s[5], s[6], s[7])
 }
 
 // Fewer bytes than a header are as long as no header asks.

@@ -2,7 +2,7 @@
 use crate::bytes::wide;
 ghost use mathlib.Core.Path.{_≡_};
 ghost use Prim.Native.Nat.{_*_, _≤_};
-ghost use Rattle.image.specs.Layout.{sizeOf, slotLength, trackLength, lengthOf, offsetOf, sameOf};
+ghost use Rattle.image.specs.Layout.{sizeOf, slotLength, trackLength, lengthOf, trackAt, offsetOf, sameOf};
 
 // What a header says of its disk.
 pub struct Geometry {
@@ -29,7 +29,7 @@ pub fn size_of(n: u8) -> usize
 
 impl Geometry {
     // The bytes of k slots.
-    fn slots_length(self, k: u8) -> usize
+    pub fn slots_length(self, k: u8) -> usize
         ensures { λ r. ⌜ r ≡ k * slotLength self ⌝ }
         ensures { λ r. ⌜ r ≤ 262395 ⌝ }
     {
@@ -52,13 +52,21 @@ impl Geometry {
         8 + self.tracks_length(wide(self.cylinders) * wide(self.heads)) + 3
     }
 
+    // Where a track's tag stands. The bound lets a caller add to it.
+    pub fn track(self, cylinder: u8, side: u8) -> usize
+        ensures { λ r. ⌜ r ≡ trackAt self cylinder side ⌝ }
+        ensures { λ r. ⌜ r ≤ 17129472008 ⌝ }
+    {
+        let track = wide(cylinder) * wide(self.heads) + wide(side);
+        8 + self.tracks_length(track)
+    }
+
     // Where a slot's mark stands. The bound lets a caller add to it.
     pub fn offset(self, cylinder: u8, side: u8, slot: u8) -> usize
         ensures { λ r. ⌜ r ≡ offsetOf self cylinder side slot ⌝ }
         ensures { λ r. ⌜ r ≤ 17129734408 ⌝ }
     {
-        let track = wide(cylinder) * wide(self.heads) + wide(side);
-        8 + self.tracks_length(track) + 5 + self.slots_length(slot)
+        self.track(cylinder, side) + 5 + self.slots_length(slot)
     }
 
     // Whether two headers say the same in all five.

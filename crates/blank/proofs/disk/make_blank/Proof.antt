@@ -17,20 +17,20 @@ use Rattle.blank.proofs.disk.make_blank.Statement.{statement}
 use Rattle.blank.proofs.disk.make_blank.Tie as tie
 
 -- taken: in range, and as long as the geometry asks
-range : (c : tie.Then1) → InRange (c .before .before .before .geometry .result)
+range : (c : tie.Then1) → InRange (c .before .before .before .geometry-of .result)
 range c =
     let a = c .before .before .before .before .before .args in
-    let there = both (c .before .before .in-range .result) _ (c .if1 .taken) .0 in
-    rw (c .before .before .before .geometry .ensures)
+    let there = both (c .before .before .ranges .result) _ (c .if1 .taken) .0 in
+    rw (c .before .before .before .geometry-of .ensures)
     (range-true (a .cylinders) (a .heads) (a .slots) (a .n) (a .protect)
-    (sym (c .before .before .in-range .ensures) ∙ there))
+    (sym (c .before .before .ranges .ensures) ∙ there))
 
 long :
     (c : tie.Then1)
     → length (c .before .before .before .before .before .args .image .now)
-    ≡ lengthOf (c .before .before .before .geometry .result)
+    ≡ lengthOf (c .before .before .before .geometry-of .result)
 long c =
-    eqb-true _ _ (both (c .before .before .in-range .result) _ (c .if1 .taken) .1) ∙ c .before .length .ensures
+    eqb-true _ _ (both (c .before .before .ranges .result) _ (c .if1 .taken) .1) ∙ c .before .length .ensures
 
 made :
     (c : tie.Then1)
@@ -43,8 +43,8 @@ made :
     ≡ true
 made c =
     rw (
-      ← c .before .before .in-range .ensures,
-      ← c .before .before .before .geometry .ensures,
+      ← c .before .before .ranges .ensures,
+      ← c .before .before .before .geometry-of .ensures,
       ← c .before .length .ensures,
     ) (c .if1 .taken)
 
@@ -59,15 +59,15 @@ refused :
     ≡ false
 refused c =
     rw (
-      ← c .before .before .in-range .ensures,
-      ← c .before .before .before .geometry .ensures,
+      ← c .before .before .ranges .ensures,
+      ← c .before .before .before .geometry-of .ensures,
       ← c .before .length .ensures,
     ) (c .if1 .left)
 
 returns : tie.Need-returns
 returns c =
     let at = c .before .before .before .before .before in
-    let g = at .before .before .before .geometry in (
+    let g = at .before .before .before .geometry-of in (
       rw (made at, ← g .ensures) (c .length2 .ensures),
       rw (made at, ← g .ensures) (c .before .before .before .put-image .ensures),
     )

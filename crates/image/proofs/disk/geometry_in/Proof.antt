@@ -1,6 +1,5 @@
 -- `image::disk::geometry_in` meets its contract: each byte stands in the slice.
 -- Assumes nothing.
-use mathlib.Core.Path.{refl}
 use Rattle.image.specs.Disk.{geometryIn}
 use borrow.Author.Needs.{needs}
 use Rattle.image.proofs.disk.geometry_in.Statement.{statement}
@@ -12,4 +11,5 @@ geometry-in-spec =
     tie.close
     (tie.spec
     (λ c. search needs) (λ c. search needs) (λ c. search needs) (λ c. search needs) (λ c. search needs)
-    (λ c. refl))
+    (λ c κs. search needs)
+    (λ c. c .geometry-of .ensures))

@@ -1,39 +1,15 @@
--- `image::layout::Geometry::offset` meets its contract: the tracks before any track, and the slots before any slot,
--- fit.
+-- `image::layout::Geometry::offset` meets its contract: the slots before any slot fit behind any track's five bytes.
 -- Assumes nothing.
-use Rattle.image.specs.Layout.{trackAt, offsetOf}
-use native.Mathlib.Nat.{mul-le-mul}
+use Rattle.image.specs.Layout.{offsetOf}
 use native.Mathlib.Omega.{arith}
 use borrow.Author.Needs.{needs}
 use Rattle.image.proofs.layout.Geometry.offset.Statement.{statement}
 use Rattle.image.proofs.layout.Geometry.offset.Tie as tie
 
 pub offset-spec : {M : Type 1} → statement M
-unfolding trackAt offsetOf
+unfolding offsetOf
 offset-spec =
     tie.close
     (tie.spec
-    (λ c κs. search needs) (λ c κs. search needs)
-    (λ c. omega (arith, mul-le-mul {n₂ = 255} {m₂ = 255} (c .before .wide .ensures .1) (c .wide2 .ensures .1)))
-    (λ c κs. search needs)
-    (λ c. omega (
-      arith,
-      mul-le-mul {n₂ = 255} {m₂ = 255} (c .before .before .wide .ensures .1)
-          (c .before .wide2 .ensures .1),
-    ))
-    (λ c κs. omega (
-      arith,
-      mul-le-mul {n₂ = 255} {m₂ = 255} (c .before .before .wide .ensures .1)
-          (c .before .wide2 .ensures .1),
-    ))
-    (λ c. search needs) (λ c. search needs) (λ c κs. search needs) (λ c. search needs)
-    (λ c. (
-      rw (
-        c .slots-length .ensures .0,
-        c .before .tracks-length .ensures .0,
-        c .before .before .wide3 .ensures .0,
-        c .before .before .before .wide2 .ensures .0,
-        c .before .before .before .before .wide .ensures .0,
-      ),
-      omega arith,
-    )))
+    (λ c κs. search needs) (λ c. search needs) (λ c κs. search needs) (λ c. search needs)
+    (λ c. (rw (c .slots-length .ensures .0, c .before .track .ensures .0), omega arith)))
