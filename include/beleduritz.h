@@ -118,6 +118,22 @@ uint32_t bel_image_size(uint8_t cylinders, uint8_t heads, uint8_t slots, uint8_t
 uint32_t bel_image_blank(uint8_t *image, size_t len, uint8_t cylinders, uint8_t heads, uint8_t slots, uint8_t n,
                          uint8_t protect, uint8_t fill);
 
+/* Whether an image is sound, or its first fault in the file's order: the kind below, 0 for sound, and the offset of its byte
+ * in bits 32 up. Any bytes of any length may be handed in; they are only read. A fault in header or length hides the later
+ * kinds. */
+uint64_t bel_judge(const uint8_t *image, size_t len);
+
+#define BEL_FAULT(word) ((uint32_t)((word)&0xFFFFFFFFu))
+#define BEL_FAULT_AT(word) ((uint32_t)((word) >> 32))
+
+#define BEL_FAULT_HEADER 1 /* the first of the eight bytes that is wrong, or the end of an image that is shorter */
+#define BEL_FAULT_LENGTH 2 /* the smaller of the length that the header asks and the length given */
+#define BEL_FAULT_TRACK 3  /* a track's tag or length */
+#define BEL_FAULT_PLACE 4  /* a track's cylinder or side byte */
+#define BEL_FAULT_MARK 5   /* a mark above 5 */
+#define BEL_FAULT_TWICE 6  /* an address twice on a track, at the later slot's mark; marks 1 to 5 have one */
+#define BEL_FAULT_END 7    /* the end field */
+
 #ifdef __cplusplus
 }
 #endif

@@ -288,6 +288,7 @@ static void after_a_cut(uint32_t b) {
   if (memcmp(last, card, IMAGE) == 0) return; /* nothing was stored since the last cut */
   memcpy(last, card, IMAGE);
   cuts++;
+  CHECK(bel_judge(card, IMAGE) == 0); /* sound after every cut */
   bel_power_on(r, sizeof r, (uint8_t)(cuts % 82), 0);
   for (uint32_t k = 0; k < BLOCKS; k++) {
     const uint32_t word = bel_block_read(r, sizeof r, card, IMAGE, none, 0, 0, k, out, SECTOR, told, STATUS);

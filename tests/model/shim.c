@@ -1,5 +1,6 @@
-/* The library's interface on top of the model: a stand-in that the tests are themselves tested with. The model and its block
- * service are compiled into this file a second time, under other names, so that a wrong copy can stand beside the right one.
+/* The library's interface on top of the model: a stand-in that the tests are themselves tested with. The model, its block
+ * service and its judge are compiled into this file a second time, under other names, so that a wrong copy can stand beside
+ * the right one.
  *
  * A record is the model's struct and a checksum behind it; bytes with another checksum are no record. */
 #define model_power_on    shim_power_on
@@ -19,8 +20,10 @@
 #define model_block_write shim_block_write
 #define model_image_size  shim_image_size
 #define model_image_blank shim_image_blank
+#define model_judge       shim_judge
 #include "model.c"
 #include "blocks.c"
+#include "judge.c"
 
 #include "beleduritz.h"
 
@@ -141,3 +144,7 @@ uint32_t bel_image_blank(uint8_t *image, size_t len, uint8_t cylinders, uint8_t 
     const uint8_t header[HEADER_BYTES] = { cylinders, heads, slots, n, protect };
     return model_image_blank((struct image){ image, len }, header, fill);
 }
+
+/* ---- the judge ---- */
+
+uint64_t bel_judge(const uint8_t *image, size_t len) { return model_judge((struct image){ (uint8_t *)image, len }); }

@@ -3,4 +3,5 @@
 pub mod blocks;
 pub mod calls;
 mod cycle;
+pub mod judge;
 mod word;

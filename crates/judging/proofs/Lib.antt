@@ -1,0 +1,12 @@
+pub mod BodyLaws
+pub mod ExactLaws
+pub mod Examples
+pub mod FaultLaws
+pub mod GroupLaws
+pub mod HeaderLaws
+pub mod JudgeLaws
+pub mod PartLaws
+pub mod PlaceLaws
+pub mod SoundLaws
+pub mod TwiceLaws
+pub mod VerdictLaws
