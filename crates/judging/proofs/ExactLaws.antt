@@ -67,10 +67,10 @@ exact-header img f e =
     told = rw e at (part-header img .told)
 
     there : InHeader img (f .kind) (f .at)
-    there = rw e at (part-header img .told) .0
+    there = told .0
 
     first : (k : Kind) (o : ℕ) → InHeader img k o → f .at ≤ o
-    first = rw e at (part-header img .told) .1
+    first = told .1
 
     header : (k : Kind) (o : ℕ) → FaultAt img k o → InHeader img k o
     header k o p = go (headed img k o p)
@@ -78,7 +78,7 @@ exact-header img f e =
         go : InHeader img k o ⊎ ((g : Geometry) × InRange g × (take 8 img ≡ headerOf g)) → InHeader img k o
         go (inl h) = h
         go (inr (g, r, h)) =
-            absurd (header-none img g r h (f .at) ((rw e at (part-header img .told) .0) .1))
+            absurd (header-none img g r h (f .at) (there .1))
 
 -- a geometry that the header says is the one that its bytes give
 same-fits :

@@ -151,6 +151,18 @@ module _ (g : Geometry) (img : List ℕ) (fits : Fits g img) (none : (k : Kind) 
         };
       })
 
+  in-place :
+      (cylinder side o : ℕ) → cylinder < g .cylinders → side < g .heads
+      → ((o ≡ trackAt g cylinder side + 3) × (getD img o 0 ≢ cylinder))
+      ⊎ ((o ≡ trackAt g cylinder side + 4) × (getD img o 0 ≢ side))
+      → ⊥
+  in-place cylinder side o lc ls w =
+      none kind.Place o (record {
+        g = g;
+        fits = fits;
+        there = record { cylinder = cylinder; side = side; on-disk = lc; on-cylinder = ls; wrong = w };
+      })
+
   framed : (cylinder side : ℕ) → cylinder < g .cylinders → side < g .heads → Track g img cylinder side
   framed cylinder side lc ls =
       record {
@@ -169,28 +181,8 @@ module _ (g : Geometry) (img : List ℕ) (fits : Fits g img) (none : (k : Kind) 
                 wrong = w;
               };
             })));
-        own-cylinder = stable _ _ (λ w. none kind.Place (trackAt g cylinder side + 3) (record {
-          g = g;
-          fits = fits;
-          there = record {
-            cylinder = cylinder;
-            side = side;
-            on-disk = lc;
-            on-cylinder = ls;
-            wrong = inl (refl, w);
-          };
-        }));
-        own-side = stable _ _ (λ w. none kind.Place (trackAt g cylinder side + 4) (record {
-          g = g;
-          fits = fits;
-          there = record {
-            cylinder = cylinder;
-            side = side;
-            on-disk = lc;
-            on-cylinder = ls;
-            wrong = inr (refl, w);
-          };
-        }));
+        own-cylinder = stable _ _ (λ w. in-place cylinder side (trackAt g cylinder side + 3) lc ls (inl (refl, w)));
+        own-side = stable _ _ (λ w. in-place cylinder side (trackAt g cylinder side + 4) lc ls (inr (refl, w)));
       }
 
   none-sound : Sound g img
