@@ -9,6 +9,7 @@ use image::disk::{geometry_of, ranges};
 use image::layout::Geometry;
 
 // The length of the image that these numbers ask for; 0 where one is out of range.
+#[tactic(auto, using(image::proofs::DiskLaws::length_le, crate::proofs::RangeLaws::range_true), unfolding(crate::specs::Blank::size_of_disk))]
 pub fn size_of_disk(cylinders: u8, heads: u8, slots: u8, n: u8) -> u32
     ensures { result ≡ size_of_disk cylinders heads slots n }
 {
@@ -29,6 +30,7 @@ fn flag_byte(protect: bool) -> u8
 }
 
 // What follows the header: the tracks, and tag 03 with length 0.
+#[tactic(auto, using(crate::proofs::ListLaws::rest_put, crate::proofs::PartLaws::tracks_length))]
 fn put_rest(s: &mut [u8], g: Geometry, fill: u8)
     requires s_len { length s.old ≡ g.cylinders * (g.heads * track_length g) + 3 }
     requires in_range { InRange g }
@@ -40,6 +42,7 @@ fn put_rest(s: &mut [u8], g: Geometry, fill: u8)
 }
 
 // The whole image: tag 01, length 5, the five numbers, and the rest.
+#[tactic(auto, using(crate::proofs::ListLaws::body_put, crate::proofs::ListLaws::part_length, crate::proofs::PartLaws::length_is, crate::proofs::PartLaws::blank_bytes))]
 fn put_image(image: &mut [u8], g: Geometry, fill: u8)
     requires image_len { length image.old ≡ length_of g }
     requires in_range { InRange g }
@@ -63,6 +66,7 @@ fn put_image(image: &mut [u8], g: Geometry, fill: u8)
 
 // A blank disk whose bytes are all `fill`, in a slice that is exactly as long as its image; the image's length.
 // Refused with 0, and nothing written: a number out of range, or a slice of another length.
+#[tactic(auto, using(image::proofs::DiskLaws::length_le, image::proofs::TestLaws::both, crate::proofs::RangeLaws::range_true))]
 pub fn make_blank(
     image: &mut [u8],
     cylinders: u8,

@@ -14,6 +14,7 @@ fn slot_length(g: Geometry) -> usize
     5 + size_of(g.n)
 }
 
+#[tactic(auto, using(image::proofs::LayoutLaws::product_le))]
 fn slots_length(g: Geometry) -> usize
     ensures value { result ≡ g.slots * slot_length g }
     ensures upper_bound { result ≤ 262395 }
@@ -21,6 +22,7 @@ fn slots_length(g: Geometry) -> usize
     wide(g.slots) * slot_length(g)
 }
 
+#[tactic(auto, unfolding(image::specs::Layout::track_length))]
 fn track_length(g: Geometry) -> usize
     ensures value { result ≡ track_length g }
     ensures upper_bound { result ≤ 262400 }
@@ -28,12 +30,14 @@ fn track_length(g: Geometry) -> usize
     5 + slots_length(g)
 }
 
+#[tactic(auto, using(image::proofs::LayoutLaws::product_le))]
 fn cylinder_length(g: Geometry) -> usize
     ensures { result ≡ g.heads * track_length g }
 {
     wide(g.heads) * track_length(g)
 }
 
+#[tactic(auto, using(crate::proofs::ListLaws::fill_step))]
 fn put_fill(s: &mut [u8], fill: u8)
     ensures { s.new ≡ replicate (length s.old) fill }
 {
@@ -45,6 +49,7 @@ fn put_fill(s: &mut [u8], fill: u8)
 }
 
 // The first bytes of a part.
+#[tactic(auto, using(crate::proofs::ListLaws::copy_step))]
 pub(crate) fn put_bytes(s: &mut [u8], bytes: &[u8])
     requires { length bytes.now ≤ length s.old }
     ensures { s.new ≡ bytes.now ++ drop (length bytes.now) s.old }
@@ -57,6 +62,7 @@ pub(crate) fn put_bytes(s: &mut [u8], bytes: &[u8])
 }
 
 // 01 Image slot: mark 1, the address of its place, B bytes. R is one more than the slot's number.
+#[tactic(auto, using(crate::proofs::ListLaws::body_put, crate::proofs::ListLaws::part_length))]
 fn put_slot(s: &mut [u8], g: Geometry, cylinder: u8, side: u8, k: u8, fill: u8)
     requires s_len { length s.old ≡ slot_length g }
     requires k_bound { k ≤ 254 }
@@ -66,6 +72,7 @@ fn put_slot(s: &mut [u8], g: Geometry, cylinder: u8, side: u8, k: u8, fill: u8)
     put_fill(&mut s[5..], fill);
 }
 
+#[tactic(auto, using(crate::proofs::ListLaws::turned_none, crate::proofs::ListLaws::turned_within, crate::proofs::ListLaws::turned_next, crate::proofs::ListLaws::turned_part, crate::proofs::ListLaws::turned_all, crate::proofs::PartLaws::slot_length_lem))]
 fn put_slots(s: &mut [u8], g: Geometry, cylinder: u8, side: u8, fill: u8)
     requires { length s.old ≡ g.slots * slot_length g }
     ensures { s.new ≡ slots_of g fill cylinder side }
@@ -83,6 +90,7 @@ fn put_slots(s: &mut [u8], g: Geometry, cylinder: u8, side: u8, fill: u8)
 }
 
 // 01 Image: per track, tag 02 with the length of what follows, cylinder, side, S slots.
+#[tactic(auto, using(image::proofs::LayoutLaws::product_le, image::proofs::LayoutLaws::size_le, crate::proofs::ListLaws::body_put, crate::proofs::ListLaws::part_length, crate::proofs::PartLaws::track_is, crate::proofs::PartLaws::track_bytes))]
 fn put_track(s: &mut [u8], g: Geometry, cylinder: u8, side: u8, fill: u8)
     requires s_len { length s.old ≡ track_length g }
     requires in_range { InRange g }
@@ -97,6 +105,7 @@ fn put_track(s: &mut [u8], g: Geometry, cylinder: u8, side: u8, fill: u8)
 }
 
 // 01 Image: side 0 first.
+#[tactic(auto, using(crate::proofs::ListLaws::turned_none, crate::proofs::ListLaws::turned_within, crate::proofs::ListLaws::turned_next, crate::proofs::ListLaws::turned_part, crate::proofs::ListLaws::turned_all, crate::proofs::PartLaws::track_length_lem))]
 fn put_sides(s: &mut [u8], g: Geometry, cylinder: u8, fill: u8)
     requires s_len { length s.old ≡ g.heads * track_length g }
     requires in_range { InRange g }
@@ -115,6 +124,7 @@ fn put_sides(s: &mut [u8], g: Geometry, cylinder: u8, fill: u8)
 }
 
 // 01 Image: cylinder by cylinder.
+#[tactic(auto, using(crate::proofs::ListLaws::turned_none, crate::proofs::ListLaws::turned_within, crate::proofs::ListLaws::turned_next, crate::proofs::ListLaws::turned_part, crate::proofs::ListLaws::turned_all, crate::proofs::PartLaws::cylinder_length))]
 pub(crate) fn put_cylinders(s: &mut [u8], g: Geometry, fill: u8)
     requires s_len { length s.old ≡ g.cylinders * (g.heads * track_length g) }
     requires in_range { InRange g }

@@ -13,7 +13,7 @@ const HOME: u32 = 79 * 63;
 const SEEK: u32 = 81 * 63;
 
 // A Recalibrate or Seek, and the report that ended it.
-#[derive(Drop)]
+#[derive(Clone, Copy)]
 pub struct Moved {
     pub came: bool,
     pub st0: u8,
@@ -21,6 +21,7 @@ pub struct Moved {
 }
 
 // Ticks until INT.
+#[tactic(auto, using(crate::proofs::BoxLaws::image_length, crate::proofs::BoxLaws::came_parts, crate::proofs::HeadLaws::wait_on, crate::proofs::HeadLaws::wait_came, crate::proofs::HeadLaws::wait_over))]
 fn wait(c: Controller, a: &mut [u8], b: &mut [u8], budget: u32) -> Waited
     ensures came { result.came ≡ (wait_of budget (box_of c a.old b.old)).came }
     ensures controller { result.controller
@@ -50,6 +51,7 @@ fn wait(c: Controller, a: &mut [u8], b: &mut [u8], budget: u32) -> Waited
 }
 
 // A Seek or Recalibrate to its report.
+#[tactic(auto, using(crate::proofs::BoxLaws::came_whole, crate::proofs::HeadLaws::moved_parts, crate::proofs::HeadLaws::move_came, crate::proofs::HeadLaws::move_over))]
 fn move_head(c: Controller, a: &mut [u8], b: &mut [u8], bytes: &[u8], budget: u32) -> Moved
     ensures came { result.came
         ≡ (moved_of budget bytes.now (box_of c a.old b.old)).came }
@@ -82,6 +84,7 @@ fn move_head(c: Controller, a: &mut [u8], b: &mut [u8], bytes: &[u8], budget: u3
 }
 
 // A head at 80 or 81 needs a second Recalibrate.
+#[tactic(auto, using(crate::proofs::HeadLaws::moved_whole, crate::proofs::HeadLaws::moved_parts, crate::proofs::HeadLaws::home_again, crate::proofs::HeadLaws::home_once))]
 fn home(c: Controller, a: &mut [u8], b: &mut [u8], drive: u8) -> Moved
     ensures came { result.came ≡ (homed_of drive (box_of c a.old b.old)).came }
     ensures st0 { result.st0 ≡ (homed_of drive (box_of c a.old b.old)).st0 }
@@ -100,6 +103,7 @@ fn home(c: Controller, a: &mut [u8], b: &mut [u8], drive: u8) -> Moved
     first
 }
 
+#[tactic(auto, using(crate::proofs::HeadLaws::moved_parts, crate::proofs::HeadLaws::seek_none, crate::proofs::HeadLaws::seek_made))]
 fn seek(c: Controller, a: &mut [u8], b: &mut [u8], drive: u8, cylinder: u8) -> Moved
     ensures came { result.came ≡ (sought_of drive cylinder (box_of c a.old b.old)).came }
     ensures st0 { result.st0 ≡ (sought_of drive cylinder (box_of c a.old b.old)).st0 }
@@ -121,6 +125,7 @@ fn seek(c: Controller, a: &mut [u8], b: &mut [u8], drive: u8, cylinder: u8) -> M
 }
 
 // From track 0 on to the cylinder.
+#[tactic(auto, using(crate::proofs::HeadLaws::moved_whole, crate::proofs::HeadLaws::position_on, crate::proofs::HeadLaws::position_lost))]
 fn position(c: Controller, a: &mut [u8], b: &mut [u8], drive: u8, cylinder: u8) -> Moved
     ensures came { result.came ≡ (position_of drive cylinder (box_of c a.old b.old)).came }
     ensures controller { result.controller
@@ -139,6 +144,7 @@ fn position(c: Controller, a: &mut [u8], b: &mut [u8], drive: u8, cylinder: u8) 
 }
 
 // Everything before the data command.
+#[tactic(auto, using(crate::proofs::HeadLaws::prepare_on, crate::proofs::HeadLaws::prepare_lost))]
 pub(crate) fn prepare(c: Controller, a: &mut [u8], b: &mut [u8], drive: u8, cylinder: u8) -> Waited
     ensures came { result.came ≡ (prepared_of drive cylinder (box_of c a.old b.old)).came }
     ensures controller { result.controller

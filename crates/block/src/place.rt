@@ -6,13 +6,14 @@ ghost use Rattle.block.specs.Place.{blocks_of, blocks_in, bytes_in, place_of};
 use image::disk::{Disk, disk_in};
 use image::layout::{Geometry, size_of};
 
-#[derive(Drop)]
+#[derive(Clone, Copy)]
 pub struct Place {
     pub cylinder: u8,
     pub side: u8,
     pub sector: u8,
 }
 
+#[tactic(auto, using(image::proofs::LayoutLaws::product_le))]
 pub(crate) fn block_count(g: Geometry) -> u32
     ensures { result ≡ blocks_of g }
 {
@@ -40,6 +41,7 @@ pub fn bytes_in(s: &[u8]) -> u32
 }
 
 // Block b is sector b mod S plus 1, side the quotient mod heads, cylinder the rest.
+#[tactic(auto, using(crate::proofs::PlaceLaws::cylinder_on, crate::proofs::PlaceLaws::side_on, crate::proofs::PlaceLaws::sector_on))]
 pub(crate) fn place_of(g: Geometry, block: u32) -> Place
     requires in_range { InRange g }
     requires block_bound { block < blocks_of g }

@@ -18,14 +18,14 @@ use fdc::record::Controller;
 pub(crate) const FIFO: u8 = 5;
 
 // What a Sense Interrupt answered.
-#[derive(Drop)]
+#[derive(Clone, Copy)]
 pub struct Sensed {
     pub st0: u8,
     pub controller: Controller,
 }
 
 // Whether what was waited for came within its budget.
-#[derive(Drop)]
+#[derive(Clone, Copy)]
 pub struct Waited {
     pub came: bool,
     pub controller: Controller,
@@ -39,6 +39,7 @@ fn weight(on: bool, byte: u8) -> u8
 }
 
 // DOR with the drive selected, its motor and the gate on, the other motors as they are, in reset or not.
+#[tactic(auto, unfolding(crate::specs::Ready::dor_for))]
 fn dor_for(drive: u8, held: bool, dor: u8) -> u8
     ensures { result ≡ dor_for drive held dor }
 {
@@ -50,6 +51,7 @@ fn dor_for(drive: u8, held: bool, dor: u8) -> u8
     dor / 0x40 % 4 * 0x40 + motor1 + motor0 + 0x08 + free + select
 }
 
+#[tactic(auto, unfolding(crate::specs::Ready::reset_for))]
 fn reset(c: Controller, drive: u8) -> Controller
     ensures { result ≡ reset_for drive c }
 {
@@ -64,6 +66,7 @@ fn reset(c: Controller, drive: u8) -> Controller
 }
 
 // The bytes of a command, one after the other.
+#[tactic(auto, using(crate::proofs::ReadyLaws::command_on, crate::proofs::ReadyLaws::command_over))]
 pub(crate) fn command(c: Controller, bytes: &[u8]) -> Controller
     ensures { result ≡ command_of bytes.now c }
 {
@@ -78,6 +81,7 @@ pub(crate) fn command(c: Controller, bytes: &[u8]) -> Controller
 }
 
 // Sense Interrupt: ST0 and PCN, or 80 alone.
+#[tactic(auto, unfolding(crate::specs::Ready::sense_of))]
 pub(crate) fn sense(c: Controller) -> Sensed
     ensures { result ≡ sense_of c }
 {
@@ -103,6 +107,7 @@ pub(crate) fn sense(c: Controller) -> Sensed
 }
 
 // Sense Interrupt until 80: a reset leaves a report for each of four drives at most.
+#[tactic(auto, using(crate::proofs::ReadyLaws::clear_on_lem, crate::proofs::ReadyLaws::clear_came, crate::proofs::ReadyLaws::clear_over))]
 fn clear(c: Controller) -> Waited
     ensures { result ≡ clear_of 5 c }
 {
@@ -127,6 +132,7 @@ fn clear(c: Controller) -> Waited
 }
 
 // Specify F0 00: 63 ticks for a step, and DMA.
+#[tactic(auto, unfolding(crate::specs::Ready::ready_of))]
 pub(crate) fn ready(c: Controller, drive: u8) -> Waited
     ensures { result ≡ ready_of drive c }
 {

@@ -29,7 +29,7 @@ use image::disk::{Disk, disk_in};
 use image::layout::{Geometry, size_of};
 use image::lent::pick;
 
-#[derive(Drop)]
+#[derive(Clone, Copy)]
 pub enum Reply {
     // The number, in the order of the tests: 4, 1, 2.
     Refused(u8),
@@ -40,7 +40,7 @@ pub enum Reply {
 }
 
 // ST0 ST1 ST2 C H R N.
-#[derive(Drop)]
+#[derive(Clone, Copy)]
 pub struct Ending {
     pub st0: u8,
     pub st1: u8,
@@ -51,12 +51,13 @@ pub struct Ending {
     pub n: u8,
 }
 
-#[derive(Drop)]
+#[derive(Clone, Copy)]
 pub struct Served {
     pub reply: Reply,
     pub controller: Controller,
 }
 
+#[tactic(auto, using(image::proofs::LayoutLaws::product_le), unfolding(crate::specs::Request::budget_of))]
 fn budget(g: Geometry) -> u32
     ensures { result ≡ budget_of g }
 {
@@ -116,6 +117,7 @@ fn fits(g: Geometry, bytes: usize) -> bool
     bytes == size_of(g.n) as usize
 }
 
+#[tactic(auto, using(crate::proofs::ServeLaws::read_whole, crate::proofs::RequestLaws::done_parts, crate::proofs::RequestLaws::read_ended, crate::proofs::RequestLaws::read_lost))]
 fn read_on(
     c: Controller,
     a: &mut [u8],
@@ -154,6 +156,7 @@ fn read_on(
     }
 }
 
+#[tactic(auto, using(crate::proofs::BoxLaws::came_whole, crate::proofs::RequestLaws::done_parts, crate::proofs::RequestLaws::read_there, crate::proofs::RequestLaws::read_not_there))]
 fn read_at(
     c: Controller,
     a: &mut [u8],
@@ -185,6 +188,7 @@ fn read_at(
     }
 }
 
+#[tactic(auto, unfolding(crate::specs::Request::read_in))]
 fn read_in(
     c: Controller,
     a: &mut [u8],
@@ -225,6 +229,7 @@ fn read_in(
     read_at(c, a, b, drive, g, place_of(g, block), out)
 }
 
+#[tactic(auto, using(image::proofs::DiskLaws::present_fits), unfolding(crate::specs::Request::read_block, crate::specs::Request::read_in))]
 pub fn read_block(
     c: Controller,
     a: &mut [u8],
@@ -260,6 +265,7 @@ pub fn read_block(
     }
 }
 
+#[tactic(auto, using(crate::proofs::BoxLaws::came_whole, crate::proofs::RequestLaws::written_parts, crate::proofs::RequestLaws::write_ended, crate::proofs::RequestLaws::write_lost))]
 fn write_on(
     c: Controller,
     a: &mut [u8],
@@ -296,6 +302,7 @@ fn write_on(
     }
 }
 
+#[tactic(auto, using(crate::proofs::BoxLaws::came_whole, crate::proofs::RequestLaws::written_parts, crate::proofs::RequestLaws::write_there, crate::proofs::RequestLaws::write_not_there))]
 fn write_at(
     c: Controller,
     a: &mut [u8],
@@ -325,6 +332,7 @@ fn write_at(
     }
 }
 
+#[tactic(auto, unfolding(crate::specs::Request::write_in))]
 fn write_in(
     c: Controller,
     a: &mut [u8],
@@ -364,6 +372,7 @@ fn write_in(
     write_at(c, a, b, drive, g, place_of(g, block), bytes)
 }
 
+#[tactic(auto, using(image::proofs::DiskLaws::present_fits), unfolding(crate::specs::Request::write_block, crate::specs::Request::write_in))]
 pub fn write_block(
     c: Controller,
     a: &mut [u8],

@@ -9,19 +9,20 @@ use fdc::answer::{Answer, value};
 use fdc::record::Controller;
 
 // After some cycles: the last one's answer, and how many bytes have passed.
-#[derive(Drop)]
+#[derive(Clone, Copy)]
 pub struct Passed {
     pub answer: Answer,
     pub done: usize,
 }
 
 // The seven result bytes, taken.
-#[derive(Drop)]
+#[derive(Clone, Copy)]
 pub struct Status {
     pub bytes: [u8; 7],
     pub controller: Controller,
 }
 
+#[tactic(auto, using(crate::proofs::ServeLaws::take_on, crate::proofs::ServeLaws::take_off, crate::proofs::ServeLaws::take_over, crate::proofs::ServeLaws::taken_parts))]
 fn take_bytes(answer: Answer, out: &mut [u8], done: usize) -> Passed
     ensures answer { result.answer
         ≡ (takes_of (length out.old - done) (taking answer out.old done)).answer }
@@ -54,6 +55,7 @@ fn take_bytes(answer: Answer, out: &mut [u8], done: usize) -> Passed
 }
 
 // Ticks until INT, the bytes asked for taken after each.
+#[tactic(auto, using(crate::proofs::BoxLaws::image_length, crate::proofs::ServeLaws::taken_length, crate::proofs::ServeLaws::taken_whole, crate::proofs::ServeLaws::read_parts, crate::proofs::ServeLaws::read_on_lem, crate::proofs::ServeLaws::read_came, crate::proofs::ServeLaws::read_over))]
 pub(crate) fn read_sector(
     c: Controller,
     a: &mut [u8],
@@ -96,6 +98,7 @@ pub(crate) fn read_sector(
     }
 }
 
+#[tactic(auto, using(crate::proofs::ServeLaws::give_on, crate::proofs::ServeLaws::give_off, crate::proofs::ServeLaws::give_over, crate::proofs::ServeLaws::given_parts))]
 fn give_bytes(answer: Answer, bytes: &[u8], done: usize) -> Passed
     ensures answer { result.answer
         ≡ (gives_of (length bytes.now - done) bytes.now (giving answer done)).answer }
@@ -123,6 +126,7 @@ fn give_bytes(answer: Answer, bytes: &[u8], done: usize) -> Passed
 }
 
 // Ticks until INT, the bytes asked for given after each.
+#[tactic(auto, using(crate::proofs::BoxLaws::image_length, crate::proofs::BoxLaws::came_parts, crate::proofs::ServeLaws::given_whole, crate::proofs::ServeLaws::write_on_lem, crate::proofs::ServeLaws::write_came, crate::proofs::ServeLaws::write_over))]
 pub(crate) fn write_sector(
     c: Controller,
     a: &mut [u8],
@@ -163,6 +167,7 @@ pub(crate) fn write_sector(
     }
 }
 
+#[tactic(auto, using(crate::proofs::ServeLaws::status_on, crate::proofs::ServeLaws::status_over))]
 pub(crate) fn take_status(c: Controller) -> Status
     ensures { result ≡ status_from 7 0 (replicate 7 0) c }
 {

@@ -4,7 +4,7 @@ use files::word::same;
 use log_lines::words::Word;
 use script::decimal::{Decimal, decimal_in};
 
-#[derive(Drop)]
+#[derive(Clone, Copy)]
 pub enum Command {
     New,
     Count,

@@ -2,6 +2,8 @@
 // `read` and `write` move one between it and standard output or input, `export` and `import` all. Each block passes
 // through the controller, by the block service. Only what is wrong is said on standard error. An image is written back
 // only where its bytes changed.
+#![tactic(auto)]
+
 mod command;
 mod make;
 mod serve;

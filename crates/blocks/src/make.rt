@@ -5,7 +5,7 @@ use files::fault::{name_fault, program_fault, system_fault};
 use script::decimal::Decimal;
 
 // The numbers of a disk, each a byte; not good: one is none.
-#[derive(Drop)]
+#[derive(Clone, Copy)]
 struct Numbers {
     cylinders: u8,
     heads: u8,

@@ -5,7 +5,7 @@ use fdc::record::Controller;
 use files::fault::program_fault;
 
 // The record after a block, and whether the run goes on.
-#[derive(Drop)]
+#[derive(Clone, Copy)]
 struct Run {
     controller: Controller,
     on: bool,

@@ -7,7 +7,7 @@ use files::fault::fault;
 use log_lines::hex::letter;
 
 // Why a block is bad.
-#[derive(Drop)]
+#[derive(Clone, Copy)]
 pub enum Fault {
     DataError,
     Protected,
@@ -24,6 +24,7 @@ pub fn bad(st0: u8) -> bool
     !(st0 / 0x40 == 0)
 }
 
+#[tactic(auto, unfolding(crate::specs::Status::fault_of))]
 fn fault_of(st1: u8, st2: u8) -> Fault
     ensures { result ≡ fault_of st1 st2 }
 {

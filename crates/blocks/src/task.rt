@@ -7,7 +7,7 @@ use files::image::image_of;
 use files::keep::kept;
 use files::load::load;
 
-#[derive(Drop)]
+#[derive(Clone, Copy)]
 pub enum Task {
     Count,
     Read(u32),
@@ -74,6 +74,7 @@ fn write_input(
     }
 }
 
+#[tactic(auto, using(image::proofs::LayoutLaws::product_le))]
 fn write(image: &mut [u8], none: &mut [u8], first: u32, count: u32, bytes: &mut [u8]) {
     let size = bytes_in(image);
     let total = count as usize * size as usize;

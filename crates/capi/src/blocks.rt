@@ -31,6 +31,7 @@ use image::lent::pick;
 use pack::put::store;
 use pack::take::{is_record, load};
 
+#[tactic(auto, unfolding(crate::specs::Blocks::refusal_on))]
 fn refusal_on(img: &[u8], block: u32, bytes: usize, room: usize) -> u8
     ensures { result ≡ refusal_on img.now block bytes room }
 {
@@ -45,6 +46,7 @@ fn refusal_on(img: &[u8], block: u32, bytes: usize, room: usize) -> u8
     if room < 7 { 3 } else { 0 }
 }
 
+#[tactic(auto, unfolding(crate::specs::Blocks::block_refusal))]
 fn block_refusal<'a>(
     c: Controller,
     a: &'a [u8],
@@ -64,6 +66,7 @@ fn block_refusal<'a>(
     refusal_on(pick(drive, a, b), block, bytes, room)
 }
 
+#[tactic(auto, unfolding(crate::specs::Blocks::block_word))]
 fn block_word(good: bool, number: u8, c: Controller) -> u32
     ensures { result ≡ block_word good number c }
 {
@@ -126,6 +129,7 @@ pub extern "C" fn bel_blocks(image: &[u8]) -> u32
 }
 
 #[unsafe(no_mangle)]
+#[tactic(auto, using(pack::proofs::PutLaws::record_long, crate::proofs::BlocksLaws::room_enough, crate::proofs::BlocksLaws::record_in_lem, crate::proofs::BlocksLaws::refusal_in_lem, crate::proofs::BlocksLaws::read_served, crate::proofs::BlocksLaws::read_refused, crate::proofs::BlocksLaws::read_no_record))]
 pub extern "C" fn bel_block_read(
     s: &mut [u8],
     image0: &mut [u8],
@@ -174,6 +178,7 @@ pub extern "C" fn bel_block_read(
 }
 
 #[unsafe(no_mangle)]
+#[tactic(auto, using(pack::proofs::PutLaws::record_long, crate::proofs::BlocksLaws::room_enough, crate::proofs::BlocksLaws::record_in_lem, crate::proofs::BlocksLaws::refusal_in_lem, crate::proofs::BlocksLaws::write_served, crate::proofs::BlocksLaws::write_refused, crate::proofs::BlocksLaws::write_no_record))]
 pub extern "C" fn bel_block_write(
     s: &mut [u8],
     image0: &mut [u8],

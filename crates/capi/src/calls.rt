@@ -44,6 +44,7 @@ fn set_in(byte: u8) -> bool
 }
 
 // A refusal leaves the bytes as they are.
+#[tactic(auto, using(pack::proofs::PutLaws::record_long), unfolding(crate::specs::Calls::written_back))]
 fn finish(s: &mut [u8], answer: Answer) -> u32
     ensures word { result ≡ word_of answer }
     ensures bytes { s.new ≡ written_back answer s.old }
@@ -60,6 +61,7 @@ fn finish(s: &mut [u8], answer: Answer) -> u32
 }
 
 // After a cycle the FIFO alone is written.
+#[tactic(auto, unfolding(crate::specs::Calls::cycled_of))]
 fn finish_cycle(s: &mut [u8], answer: Answer) -> u32
     ensures word { result ≡ word_of answer }
     ensures bytes { s.new ≡ cycled_of answer s.old }
@@ -85,6 +87,7 @@ pub extern "C" fn bel_record_size() -> u32
 }
 
 #[unsafe(no_mangle)]
+#[tactic(auto, unfolding(crate::specs::Calls::power_word, pack::specs::Bytes::stored_of))]
 pub extern "C" fn bel_power_on(s: &mut [u8], head0: u8, head1: u8) -> u32
     ensures word { result ≡ power_word s.old (power_on head0 head1) }
     ensures bytes { s.new ≡ power_bytes s.old (power_on head0 head1) }
@@ -102,6 +105,7 @@ pub extern "C" fn bel_power_on(s: &mut [u8], head0: u8, head1: u8) -> u32
 }
 
 #[unsafe(no_mangle)]
+#[tactic(auto, using(pack::proofs::PutLaws::record_loaded), unfolding(crate::specs::Calls::word_back, crate::specs::Calls::bytes_from))]
 pub extern "C" fn bel_read_port(s: &mut [u8], offset: u8) -> u32
     ensures word { result ≡ word_back s.old (read_port offset (record_in s.old)) }
     ensures bytes { s.new
@@ -118,6 +122,7 @@ pub extern "C" fn bel_read_port(s: &mut [u8], offset: u8) -> u32
 }
 
 #[unsafe(no_mangle)]
+#[tactic(auto, using(pack::proofs::PutLaws::record_loaded), unfolding(crate::specs::Calls::word_back, crate::specs::Calls::bytes_from))]
 pub extern "C" fn bel_write_port(s: &mut [u8], offset: u8, byte: u8) -> u32
     ensures word { result
         ≡ word_back s.old (write_port offset byte (record_in s.old)) }
@@ -136,6 +141,7 @@ pub extern "C" fn bel_write_port(s: &mut [u8], offset: u8, byte: u8) -> u32
 
 // To the host; tc is 0 or not.
 #[unsafe(no_mangle)]
+#[tactic(auto, using(pack::proofs::CycleLaws::read_keeps, pack::proofs::PutLaws::record_loaded), unfolding(crate::specs::Calls::word_back, crate::specs::Calls::cycle_from))]
 pub extern "C" fn bel_dma_read(s: &mut [u8], tc: u8) -> u32
     ensures word { result
         ≡ word_back s.old (dma_read (set_in tc) (record_in s.old)) }
@@ -158,6 +164,7 @@ pub extern "C" fn bel_dma_read(s: &mut [u8], tc: u8) -> u32
 
 // From the host.
 #[unsafe(no_mangle)]
+#[tactic(auto, using(pack::proofs::CycleLaws::write_keeps, pack::proofs::PutLaws::record_loaded), unfolding(crate::specs::Calls::word_back, crate::specs::Calls::cycle_from))]
 pub extern "C" fn bel_dma_write(s: &mut [u8], byte: u8, tc: u8) -> u32
     ensures word { result
         ≡ word_back s.old (dma_write byte (set_in tc) (record_in s.old)) }
@@ -179,6 +186,7 @@ pub extern "C" fn bel_dma_write(s: &mut [u8], byte: u8, tc: u8) -> u32
 }
 
 #[unsafe(no_mangle)]
+#[tactic(auto, using(pack::proofs::PutLaws::record_loaded), unfolding(crate::specs::Calls::word_back, crate::specs::Calls::bytes_from))]
 pub extern "C" fn bel_note_change(s: &mut [u8], drive: u8) -> u32
     ensures word { result ≡ word_back s.old (note_change drive (record_in s.old)) }
     ensures bytes { s.new
@@ -196,6 +204,7 @@ pub extern "C" fn bel_note_change(s: &mut [u8], drive: u8) -> u32
 
 // One byte time, over the two images.
 #[unsafe(no_mangle)]
+#[tactic(auto, using(pack::proofs::PutLaws::record_loaded), unfolding(crate::specs::Calls::word_back, crate::specs::Calls::bytes_from, crate::specs::Calls::image_from))]
 pub extern "C" fn bel_tick(s: &mut [u8], image0: &mut [u8], image1: &mut [u8]) -> u32
     ensures word { result
         ≡ word_back s.old
@@ -221,6 +230,7 @@ pub extern "C" fn bel_tick(s: &mut [u8], image0: &mut [u8], image1: &mut [u8]) -
 
 // Up to n ticks, with one reading and one writing of the record.
 #[unsafe(no_mangle)]
+#[tactic(auto, using(pack::proofs::PutLaws::record_loaded), unfolding(crate::specs::Calls::long_from, crate::specs::Calls::bytes_from, crate::specs::Calls::first_from, crate::specs::Calls::second_from))]
 pub extern "C" fn bel_ticks(s: &mut [u8], image0: &mut [u8], image1: &mut [u8], n: u32) -> u64
     ensures word { result
         ≡ long_from n s.old image0.old image1.old }

@@ -16,6 +16,7 @@ use pack::cycle::{efifo, pending};
 use pack::put::store_fifo;
 use pack::take::load_fifo;
 
+#[tactic(auto, using(pack::proofs::CycleLaws::cycle_int, pack::proofs::CycleLaws::cycle_drq, pack::proofs::PutLaws::record_loaded), unfolding(fdc::specs::Answer::answer_of))]
 fn cycled(s: &mut [u8], reply: Reply, f: Fifo) -> u32
     requires { (is_record s.old ≡ true) × (cycles_in s.old ≡ true) }
     ensures word { result ≡ word_of (answer_of reply (with_fifo f (record_in s.old))) }
@@ -28,6 +29,7 @@ fn cycled(s: &mut [u8], reply: Reply, f: Fifo) -> u32
 }
 
 // The host takes a byte.
+#[tactic(auto, using(pack::proofs::PutLaws::record_loaded, pack::proofs::CycleLaws::reading_told, pack::proofs::CycleLaws::reading_cycle), unfolding(crate::specs::Calls::cycled_of, fdc::specs::Answer::answer_of, fdc::specs::Record::with_fifo))]
 pub(crate) fn read_cycle(s: &mut [u8], tc: bool) -> u32
     requires { (is_record s.old ≡ true) × (reading_in s.old ≡ true) }
     ensures word { result ≡ word_of (dma_read tc (record_in s.old)) }
@@ -42,6 +44,7 @@ pub(crate) fn read_cycle(s: &mut [u8], tc: bool) -> u32
 }
 
 // The host gives a byte.
+#[tactic(auto, using(pack::proofs::PutLaws::record_loaded, pack::proofs::CycleLaws::writing_told, pack::proofs::CycleLaws::writing_cycle), unfolding(crate::specs::Calls::cycled_of, fdc::specs::Answer::answer_of, fdc::specs::Record::with_fifo))]
 pub(crate) fn write_cycle(s: &mut [u8], byte: u8, tc: bool) -> u32
     requires { (is_record s.old ≡ true) × (writing_in s.old ≡ true) }
     ensures word { result ≡ word_of (dma_write byte tc (record_in s.old)) }

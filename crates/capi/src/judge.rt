@@ -8,6 +8,7 @@ use judging::fault::{Verdict, kind_number};
 use judging::judge::judge;
 
 #[unsafe(no_mangle)]
+#[tactic(auto, using(judging::proofs::ExactLaws::offset_low))]
 pub extern "C" fn bel_judge(image: &[u8]) -> u64
     ensures { result ≡ verdict_word (judge_of image.now) }
 {

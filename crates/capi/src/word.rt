@@ -11,6 +11,7 @@ pub(crate) fn line(on: bool, weight: u32) -> u32
     if on { weight } else { 0 }
 }
 
+#[tactic(auto, unfolding(crate::specs::Word::word_in))]
 pub fn word_in(reply: Reply, int: bool, drq: bool) -> u32
     ensures { result ≡ word_in reply int drq }
 {

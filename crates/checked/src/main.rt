@@ -1,4 +1,6 @@
 // Document 01's checked examples, run: what the compiled code answers, a line for each value, its tag first.
+#![tactic(auto)]
+
 use chip::codes::Entry;
 use chip::fifo::Fifo;
 use image::layout::Geometry;

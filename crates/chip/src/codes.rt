@@ -4,7 +4,7 @@ ghost use Rattle.chip.specs.Commands.{kind_of, entry_of, table_line, kind_number
 
 use crate::table::CODES;
 
-#[derive(Drop)]
+#[derive(Clone, Copy)]
 pub enum Kind {
     Unknown,
     ReadData,
@@ -22,7 +22,7 @@ pub enum Kind {
     Configure,
 }
 
-#[derive(Drop)]
+#[derive(Clone, Copy)]
 pub struct Entry {
     pub kind: Kind,
     pub bytes: u8,
@@ -49,6 +49,7 @@ pub fn kind_number(kind: Kind) -> u8
     }
 }
 
+#[tactic(auto, unfolding(crate::specs::Commands::kind_numbered))]
 pub fn kind_numbered(n: u8) -> Kind
     ensures { result ≡ kind_numbered n }
 {
@@ -70,12 +71,14 @@ pub fn kind_numbered(n: u8) -> Kind
     }
 }
 
+#[tactic(auto, using(crate::proofs::TableLaws::at), unfolding(crate::specs::Commands::kind_of))]
 fn line_at(code: u8) -> u8
     ensures { result ≡ table_line (kind_of code) }
 {
     CODES[code as usize]
 }
 
+#[tactic(auto, using(crate::proofs::CodeLaws::line_read), unfolding(crate::specs::Commands::entry_of))]
 pub fn entry_at(code: u8) -> Entry
     ensures { result ≡ entry_of code }
 {

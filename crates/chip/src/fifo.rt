@@ -20,7 +20,7 @@ ghost use Rattle.chip.specs.Fifo.{
   drawn_of,
 };
 
-#[derive(Drop)]
+#[derive(Clone, Copy)]
 pub struct Fifo {
     pub bytes: [u8; 16],
     pub count: u8,
@@ -140,6 +140,7 @@ impl Fifo {
     }
 
     // The oldest byte goes, and the others move up.
+    #[tactic(auto, using(crate::proofs::TableLaws::listed_drop))]
     fn popped(self) -> Fifo
         ensures { result ≡ popped_of self }
     {
@@ -158,6 +159,7 @@ impl Fifo {
     }
 
     // A byte from the disk, to the host.
+    #[tactic(auto, using(crate::proofs::FifoLaws::room_left, image::proofs::TestLaws::or_right), unfolding(crate::specs::Fifo::filled_of))]
     pub fn filled(self, efifo: bool, fifothr: u8, last: bool, byte: u8) -> Fifo
         ensures { result ≡ filled_of efifo fifothr last byte self }
     {
@@ -171,6 +173,7 @@ impl Fifo {
     }
 
     // The host takes the front byte, with or without TC.
+    #[tactic(auto, unfolding(crate::specs::Fifo::taken_of))]
     pub fn taken(self, tc: bool) -> Fifo
         ensures { result ≡ taken_of tc self }
     {
@@ -183,6 +186,7 @@ impl Fifo {
     }
 
     // The first tests passed: the request from the host goes on.
+    #[tactic(auto, unfolding(crate::specs::Fifo::opened_of))]
     pub fn opened(self) -> Fifo
         ensures { result ≡ opened_of self }
     {
@@ -190,6 +194,7 @@ impl Fifo {
     }
 
     // The host gives a byte, with or without TC. A full FIFO has no room for either, and asks no more (D-32).
+    #[tactic(auto, using(crate::proofs::FifoLaws::room_left), unfolding(crate::specs::Fifo::given_of))]
     pub fn given(self, efifo: bool, tc: bool, byte: u8) -> Fifo
         ensures { result ≡ given_of efifo tc byte self }
     {
@@ -203,6 +208,7 @@ impl Fifo {
     }
 
     // The front byte goes to the disk.
+    #[tactic(auto, unfolding(crate::specs::Fifo::drawn_of))]
     pub fn drawn(self, efifo: bool, fifothr: u8) -> Fifo
         ensures { result ≡ drawn_of efifo fifothr self }
     {

@@ -1,4 +1,6 @@
 // The controller's rules that need neither its record nor an image (01 Commands, Stepping, FIFO, Next, Refusals).
+#![tactic(auto)]
+
 pub mod codes;
 pub mod fifo;
 pub mod next;

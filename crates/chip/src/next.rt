@@ -5,7 +5,7 @@ ghost use Rattle.chip.specs.Next.{next_of, advanced_of, after_by, turned};
 use image::slot::Id;
 
 // What follows a finished sector. Each carries the one next address, so that no caller advances R again (01 Easy 1).
-#[derive(Drop)]
+#[derive(Clone, Copy)]
 pub enum Next {
     // The normal end: TC came.
     Ended(Id),
@@ -36,6 +36,7 @@ fn either(t: bool, a: u8, b: u8) -> u8
 }
 
 // The next address; step: how far R goes below EOT.
+#[tactic(auto, unfolding(crate::specs::Next::advanced_of))]
 pub fn advance(id: Id, eot: u8, mt: bool, side: u8, step: u8) -> Id
     ensures { result ≡ advanced_of id eot mt side step }
 {
@@ -61,6 +62,7 @@ pub fn advance(id: Id, eot: u8, mt: bool, side: u8, step: u8) -> Id
 }
 
 // For a write the caller's TC means: TC came and the FIFO is empty.
+#[tactic(auto, unfolding(crate::specs::Next::next_of))]
 pub fn follow(id: Id, eot: u8, mt: bool, side: u8, step: u8, tc: bool) -> Next
     ensures { result ≡ next_of id eot mt side step tc }
 {

@@ -1,5 +1,7 @@
 // A drive's mechanics (01 Stepping): where its head stands, what the controller takes that to be, and a Seek or
 // Recalibrate going on. It knows nothing of ports, commands and images.
+#![tactic(auto)]
+
 ghost use Rattle.std.specs.Prelude.{◌≡◌, cond, ◌-◌, ◌≤◌};
 ghost use Rattle.drive.specs.Drive.{
   fresh_drive,
@@ -33,14 +35,14 @@ ghost use Rattle.drive.specs.Step.{
 
 // A Seek or Recalibrate going on: the steps still due, and the ticks until the next one, or until the end if none
 // is due.
-#[derive(Drop)]
+#[derive(Clone, Copy)]
 pub enum Motion {
     Still,
     Seeking { target: u8, steps: u8, wait: u16 },
     Recalibrating { steps: u8, wait: u16 },
 }
 
-#[derive(Drop)]
+#[derive(Clone, Copy)]
 pub struct Drive {
     // Where the head stands. PCN is where the controller takes it to be (01 Easy 3).
     pub head: u8,
@@ -209,6 +211,7 @@ impl Drive {
         self.accepted(Motion::Recalibrating { steps, wait })
     }
 
+    #[tactic(auto, unfolding(crate::specs::Step::stepped))]
     fn stepped(self, number: u8, mounted: bool, goes_in: bool) -> Drive
         ensures { result ≡ stepped number mounted goes_in self }
     {
@@ -225,6 +228,7 @@ impl Drive {
         }
     }
 
+    #[tactic(auto, unfolding(crate::specs::Step::sought))]
     fn sought(self, number: u8, target: u8) -> Drive
         ensures { result ≡ sought number target self }
     {
@@ -238,6 +242,7 @@ impl Drive {
         }
     }
 
+    #[tactic(auto, unfolding(crate::specs::Step::recalibrated))]
     fn recalibrated(self, number: u8) -> Drive
         ensures { result ≡ recalibrated number self }
     {
@@ -252,6 +257,7 @@ impl Drive {
         }
     }
 
+    #[tactic(auto, unfolding(crate::specs::Step::seek_step))]
     fn seek_step(self, number: u8, mounted: bool, ticks: u16, target: u8, steps: u8) -> Drive
         ensures { result ≡ seek_step number mounted ticks target steps self }
     {
@@ -268,6 +274,7 @@ impl Drive {
         })
     }
 
+    #[tactic(auto, unfolding(crate::specs::Step::recalibrate_step))]
     fn recalibrate_step(self, number: u8, mounted: bool, ticks: u16, steps: u8) -> Drive
         ensures { result ≡ recalibrate_step number mounted ticks steps self }
     {
@@ -283,6 +290,7 @@ impl Drive {
         })
     }
 
+    #[tactic(auto, unfolding(crate::specs::Step::seek_tick, crate::specs::Step::seek_step))]
     fn seek_tick(
         self,
         number: u8,
@@ -309,6 +317,7 @@ impl Drive {
         self.seek_step(number, mounted, ticks, target, steps)
     }
 
+    #[tactic(auto, unfolding(crate::specs::Step::recalibrate_tick, crate::specs::Step::recalibrate_step))]
     fn recalibrate_tick(self, number: u8, mounted: bool, ticks: u16, steps: u8, wait: u16) -> Drive
         ensures { result ≡ recalibrate_tick number mounted ticks steps wait self }
     {
@@ -326,6 +335,7 @@ impl Drive {
         self.recalibrate_step(number, mounted, ticks, steps)
     }
 
+    #[tactic(auto, unfolding(crate::specs::Step::tick_in))]
     fn tick_in(self, motion: Motion, number: u8, mounted: bool, ticks: u16) -> Drive
         ensures { result ≡ tick_in motion number mounted ticks self }
     {
@@ -343,6 +353,7 @@ impl Drive {
     }
 
     // A tick of drive `number`, mounted or not, with `ticks` for a step.
+    #[tactic(auto, unfolding(crate::specs::Step::tick_drive))]
     pub fn tick(self, number: u8, mounted: bool, ticks: u16) -> Drive
         ensures { result ≡ tick_drive number mounted ticks self }
     {

@@ -27,7 +27,7 @@ use sectors::track::has_track;
 use sectors::work::{Form, Site, Stage, Step, Task, Work};
 
 // What the first tests say: the end's ST1, or the disk met.
-#[derive(Drop)]
+#[derive(Clone, Copy)]
 enum Gate {
     Shut(u8),
     Open(Geometry),
@@ -72,6 +72,7 @@ fn job_misplanned(job: Job, g: Geometry) -> bool
 }
 
 // The tests of a first tick, in their order.
+#[tactic(auto, unfolding(crate::specs::First::gate_of))]
 fn first_tests(disk: Disk, job: Job, side: u8, head: u8) -> Gate
     ensures { result ≡ gate_of disk job side head }
 {
@@ -96,6 +97,7 @@ fn first_tests(disk: Disk, job: Job, side: u8, head: u8) -> Gate
 }
 
 // The address of an end in the first tick.
+#[tactic(auto, unfolding(crate::specs::First::given_id))]
 fn given_id(job: Job, drive: u8, side: u8, head: u8) -> Id
     ensures { result ≡ given_id job drive side head }
 {
@@ -117,6 +119,7 @@ fn task_of(transfer: Transfer, id: Id) -> Task
     }
 }
 
+#[tactic(auto, unfolding(crate::specs::First::moving_of))]
 fn moving(pass: Pass, transfer: Transfer, id: Id, site: Site, fifo: Fifo) -> Step
     ensures { result ≡ moving_of pass transfer id site fifo }
 {
@@ -139,6 +142,7 @@ fn moving(pass: Pass, transfer: Transfer, id: Id, site: Site, fifo: Fifo) -> Ste
     }
 }
 
+#[tactic(auto, unfolding(crate::specs::First::start_job))]
 fn start(job: Job, site: Site, fifo: Fifo) -> Step
     ensures { result ≡ start_job job site fifo }
 {
@@ -158,6 +162,7 @@ fn start(job: Job, site: Site, fifo: Fifo) -> Step
     }
 }
 
+#[tactic(auto, unfolding(crate::specs::First::entered_of))]
 fn entered(gate: Gate, job: Job, drive: u8, side: u8, head: u8, fifo: Fifo) -> Step
     ensures { result ≡ entered_of gate job drive side head fifo }
 {
@@ -178,6 +183,7 @@ fn entered(gate: Gate, job: Job, drive: u8, side: u8, head: u8, fifo: Fifo) -> S
 }
 
 // The first tick of a command.
+#[tactic(auto, unfolding(crate::specs::First::begin_of))]
 pub fn begin(order: Order, disk: Disk, head: u8, fifo: Fifo) -> Step
     ensures { result ≡ begin_of order disk head fifo }
 {

@@ -8,7 +8,7 @@ use sectors::order::Pass;
 use sectors::work::{Form, Stage, Work};
 
 // Which way its bytes go.
-#[derive(Drop)]
+#[derive(Clone, Copy)]
 pub enum Flow {
     Quiet,
     ToHost,

@@ -50,6 +50,7 @@ pub fn format_id(plan: Plan, drive: u8, head: u8, side: u8, done: u8) -> Id
     }
 }
 
+#[tactic(auto, unfolding(crate::specs::Format::format_end))]
 pub fn format_end(
     normal: bool,
     st1: u8,
@@ -84,7 +85,7 @@ pub fn forms(form: Form, site: Site, plan: Plan, fifo: Fifo, effect: Effect) -> 
 }
 
 // What a byte of a formatted slot is: the byte and the FIFO after it, or none where the host's is missing.
-#[derive(Drop)]
+#[derive(Clone, Copy)]
 pub struct Laid {
     pub missing: bool,
     pub byte: u8,
@@ -102,6 +103,7 @@ fn lay(plan: Plan, fifo: Fifo, efifo: bool, fifothr: u8) -> Laid
     }
 }
 
+#[tactic(auto, unfolding(crate::specs::Format::form_await))]
 fn await_address(slot: u8, wait: u8, site: Site, plan: Plan, head: u8, fifo: Fifo) -> Step
     ensures { result ≡ form_await slot wait site plan head fifo }
 {
@@ -129,6 +131,7 @@ fn await_address(slot: u8, wait: u8, site: Site, plan: Plan, head: u8, fifo: Fif
     )
 }
 
+#[tactic(auto, unfolding(crate::specs::Format::address_put))]
 fn put_address(slot: u8, k: u8, site: Site, plan: Plan, fifo: Fifo, effect: Effect) -> Step
     ensures { result ≡ address_put slot k site plan fifo effect }
 {
@@ -138,6 +141,7 @@ fn put_address(slot: u8, k: u8, site: Site, plan: Plan, fifo: Fifo, effect: Effe
     forms(Form::Addressing(slot, k + 1), site, plan, fifo, effect)
 }
 
+#[tactic(auto, unfolding(crate::specs::Format::address_of))]
 fn address(
     slot: u8,
     k: u8,
@@ -160,6 +164,7 @@ fn address(
     put_address(slot, k, site, plan, f, Effect::Store { at, byte })
 }
 
+#[tactic(auto, unfolding(crate::specs::Format::clear_on))]
 fn clear_on(slot: u8, site: Site, plan: Plan, head: u8, fifo: Fifo, effect: Effect) -> Step
     ensures { result ≡ clear_on slot site plan head fifo effect }
 {
@@ -170,6 +175,7 @@ fn clear_on(slot: u8, site: Site, plan: Plan, head: u8, fifo: Fifo, effect: Effe
     format_end(true, 0x00, plan.sc, effect, site, plan, head)
 }
 
+#[tactic(auto, unfolding(crate::specs::Format::formed_of))]
 fn formed(slot: u8, site: Site, plan: Plan, head: u8, fifo: Fifo, effect: Effect) -> Step
     ensures { result ≡ formed_of slot site plan head fifo effect }
 {
@@ -198,6 +204,7 @@ fn put_laid(laid: Laid, slot: u8, done: u16, site: Site, plan: Plan, head: u8) -
     )
 }
 
+#[tactic(auto, unfolding(crate::specs::Format::fill_of))]
 fn fill(
     slot: u8,
     done: u16,
@@ -222,6 +229,7 @@ fn fill(
     put_laid(laid, slot, done, site, plan, head)
 }
 
+#[tactic(auto, unfolding(crate::specs::Format::clear_of))]
 fn clear(slot: u8, site: Site, plan: Plan, head: u8, fifo: Fifo) -> Step
     ensures { result ≡ clear_of slot site plan head fifo }
 {
@@ -230,6 +238,7 @@ fn clear(slot: u8, site: Site, plan: Plan, head: u8, fifo: Fifo) -> Step
     clear_on(slot, site, plan, head, fifo, Effect::Store { at, byte })
 }
 
+#[tactic(auto, unfolding(crate::specs::Format::form_of))]
 pub fn form_on(
     form: Form,
     site: Site,

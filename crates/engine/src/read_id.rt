@@ -22,6 +22,7 @@ pub fn no_address() -> Id
     }
 }
 
+#[tactic(auto, unfolding(crate::specs::ReadId::no_id_of))]
 pub fn no_id(site: Site) -> Step
     ensures { result ≡ no_id_of site }
 {
@@ -36,6 +37,7 @@ pub fn no_id(site: Site) -> Step
     )
 }
 
+#[tactic(auto, unfolding(crate::specs::ReadId::no_id_here))]
 fn no_id_here(slot: u8, passes: u8, site: Site, fifo: Fifo) -> Step
     ensures { result ≡ no_id_here slot passes site fifo }
 {
@@ -53,12 +55,14 @@ fn no_id_here(slot: u8, passes: u8, site: Site, fifo: Fifo) -> Step
     )
 }
 
+#[tactic(auto, unfolding(crate::specs::ReadId::id_here))]
 fn id_here(id: Id, site: Site) -> Step
     ensures { result ≡ id_here id site }
 {
     end(true, site.drive, site.side, 0x00, 0x00, id, Effect::Nothing)
 }
 
+#[tactic(auto, unfolding(crate::specs::ReadId::identified_of))]
 fn identified(mark: Mark, id: Id, slot: u8, passes: u8, site: Site, fifo: Fifo) -> Step
     ensures { result ≡ identified_of mark id slot passes site fifo }
 {
@@ -69,6 +73,7 @@ fn identified(mark: Mark, id: Id, slot: u8, passes: u8, site: Site, fifo: Fifo) 
     }
 }
 
+#[tactic(auto, unfolding(crate::specs::ReadId::identify_of))]
 pub fn identify(slot: u8, passes: u8, site: Site, head: u8, s: &[u8], fifo: Fifo) -> Step
     ensures { result ≡ identify_of slot passes site head s.now fifo }
 {

@@ -26,6 +26,7 @@ pub(crate) fn site_of(work: Work) -> Site
 }
 
 // The disk met is gone, or is another.
+#[tactic(auto, unfolding(crate::specs::Step::lost_of))]
 fn lost(work: Work, head: u8) -> Step
     ensures { result ≡ lost_of work head }
 {
@@ -39,6 +40,7 @@ fn lost(work: Work, head: u8) -> Step
     }
 }
 
+#[tactic(auto, unfolding(crate::specs::Step::stage_of))]
 fn stage_on(
     stage: Stage,
     site: Site,
@@ -63,6 +65,7 @@ fn stage_on(
     }
 }
 
+#[tactic(auto, unfolding(crate::specs::Step::work_step))]
 fn work_on(work: Work, head: u8, s: &[u8], fifo: Fifo, efifo: bool, fifothr: u8) -> Step
     ensures { result ≡ work_step work head s.now fifo efifo fifothr }
 {
@@ -76,6 +79,7 @@ fn work_on(work: Work, head: u8, s: &[u8], fifo: Fifo, efifo: bool, fifothr: u8)
 }
 
 // A tick after the first.
+#[tactic(auto, unfolding(crate::specs::Step::go_on_of))]
 pub fn go_on(
     work: Work,
     disk: Disk,

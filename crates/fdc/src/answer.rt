@@ -5,7 +5,7 @@ ghost use Rattle.fdc.specs.Answer.{value_of, number_in, answer_of};
 use crate::record::Controller;
 use chip::refusal::{Refusal, number};
 
-#[derive(Drop)]
+#[derive(Clone, Copy)]
 pub enum Reply {
     Done,
     Byte(u8),
@@ -13,7 +13,7 @@ pub enum Reply {
 }
 
 // A reply with the record handed back, and its lines.
-#[derive(Drop)]
+#[derive(Clone, Copy)]
 pub struct Answer {
     pub reply: Reply,
     pub int: bool,
@@ -43,6 +43,7 @@ pub fn refusal_number(reply: Reply) -> u8
 }
 
 impl Controller {
+    #[tactic(auto, unfolding(crate::specs::Answer::answer_of))]
     pub fn answer(self, reply: Reply) -> Answer
         ensures { result ≡ answer_of reply self }
     {

@@ -10,6 +10,7 @@ use chip::refusal::Refusal;
 
 impl Controller {
     // Power-on with the two heads where they stand.
+    #[tactic(auto, unfolding(crate::specs::Calls::power_on))]
     pub fn power_on(head0: u8, head1: u8) -> Answer
         ensures { result ≡ power_on head0 head1 }
     {
@@ -20,6 +21,7 @@ impl Controller {
         Controller::new(0, 0).answer(Reply::Refused(Refusal::Head))
     }
 
+    #[tactic(auto, unfolding(crate::specs::Calls::read_port))]
     pub fn read_port(self, offset: u8) -> Answer
         ensures { result ≡ read_port offset self }
     {
@@ -30,6 +32,7 @@ impl Controller {
         self.answer(Reply::Refused(Refusal::Damaged))
     }
 
+    #[tactic(auto, unfolding(crate::specs::Calls::write_port))]
     pub fn write_port(self, offset: u8, byte: u8) -> Answer
         ensures { result ≡ write_port offset byte self }
     {
@@ -41,6 +44,7 @@ impl Controller {
     }
 
     // To the host.
+    #[tactic(auto, unfolding(crate::specs::Calls::dma_read))]
     pub fn dma_read(self, tc: bool) -> Answer
         ensures { result ≡ dma_read tc self }
     {
@@ -52,6 +56,7 @@ impl Controller {
     }
 
     // From the host.
+    #[tactic(auto, unfolding(crate::specs::Calls::dma_write))]
     pub fn dma_write(self, byte: u8, tc: bool) -> Answer
         ensures { result ≡ dma_write byte tc self }
     {
@@ -63,6 +68,7 @@ impl Controller {
     }
 
     // A disk was changed in that drive.
+    #[tactic(auto, unfolding(crate::specs::Calls::note_change))]
     pub fn note_change(self, drive: u8) -> Answer
         ensures { result ≡ note_change drive self }
     {

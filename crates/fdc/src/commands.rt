@@ -50,6 +50,7 @@ fn put(command: [u8; 9], at: usize, byte: u8) -> [u8; 9]
 }
 
 // At most nine.
+#[tactic(auto, using(crate::proofs::BeginLaws::one_more_below, crate::proofs::BeginLaws::one_more_full))]
 fn one_more(gathered: u8) -> u8
     ensures { result ≡ one_more gathered }
 {
@@ -99,6 +100,7 @@ fn lowest_of(a: bool, b: bool, c: bool, d: bool) -> u8
 }
 
 // The lowest drive that has a report, or 4.
+#[tactic(auto, unfolding(crate::specs::Commands::reporter_of))]
 fn reporter(drives: [Drive; 4]) -> u8
     ensures { result ≡ reporter_of drives }
 {
@@ -111,6 +113,7 @@ fn reporter(drives: [Drive; 4]) -> u8
 
 // Code, side and drive, C H R N, EOT, GPL, DTL. DTL has its room in the transfer, for a header with N 0 (02 2026-05):
 // there is none, so it is cleared.
+#[tactic(auto, unfolding(crate::specs::Commands::move_order))]
 fn move_order(command: [u8; 9], pass: Pass, deleted: bool) -> Order
     ensures { result ≡ move_order command pass deleted }
 {
@@ -136,6 +139,7 @@ fn move_order(command: [u8; 9], pass: Pass, deleted: bool) -> Order
 }
 
 // Code, side and drive, N, SC, GPL, D.
+#[tactic(auto, unfolding(crate::specs::Commands::format_order))]
 fn format_order(command: [u8; 9]) -> Order
     ensures { result ≡ format_order command }
 {
@@ -151,6 +155,7 @@ fn format_order(command: [u8; 9]) -> Order
     }
 }
 
+#[tactic(auto, unfolding(crate::specs::Commands::identify_order))]
 fn identify_order(command: [u8; 9]) -> Order
     ensures { result ≡ identify_order command }
 {
@@ -185,6 +190,7 @@ fn heeds(kind: Kind) -> bool
 
 impl Controller {
     // Results wait. They raise INT where they are a data command's, Read ID's or Format's.
+    #[tactic(auto, unfolding(crate::specs::Commands::answered_of))]
     pub fn answered(self, loud: bool, results: [u8; RESULTS], left: u8) -> Controller
         ensures { result ≡ answered_of loud results left self }
     {
@@ -206,18 +212,21 @@ impl Controller {
         }
     }
 
+    #[tactic(auto, unfolding(crate::specs::Commands::said_of))]
     pub fn say(self, byte: u8) -> Controller
         ensures { result ≡ said_of byte self }
     {
         self.answered(false, pad(&[byte]), 1)
     }
 
+    #[tactic(auto, unfolding(crate::specs::Commands::said_two))]
     fn say_two(self, first: u8, second: u8) -> Controller
         ensures { result ≡ said_two first second self }
     {
         self.answered(false, pad(&[first, second]), 2)
     }
 
+    #[tactic(auto, unfolding(crate::specs::Commands::idled_of))]
     pub fn idled(self) -> Controller
         ensures { result ≡ idled_of self }
     {
@@ -234,12 +243,14 @@ impl Controller {
         }
     }
 
+    #[tactic(auto, unfolding(crate::specs::Commands::started_of))]
     fn started(self, order: Order) -> Controller
         ensures { result ≡ started_of order self }
     {
         self.idled().with_phase(Phase::Starting(order))
     }
 
+    #[tactic(auto, unfolding(crate::specs::Commands::specify_of))]
     fn specify(self) -> Controller
         ensures { result ≡ specify_of self }
     {
@@ -248,6 +259,7 @@ impl Controller {
         self.with_registers(registers).idled()
     }
 
+    #[tactic(auto, unfolding(crate::specs::Commands::configure_of))]
     fn configure(self) -> Controller
         ensures { result ≡ configure_of self }
     {
@@ -258,6 +270,7 @@ impl Controller {
             .idled()
     }
 
+    #[tactic(auto, unfolding(crate::specs::Commands::sensing_of))]
     fn sense_drive(self) -> Controller
         ensures { result ≡ sensing_of self }
     {
@@ -267,6 +280,7 @@ impl Controller {
     }
 
     // The report of the lowest drive and its PCN; with none 80 alone.
+    #[tactic(auto, unfolding(crate::specs::Commands::sensed_of))]
     fn sense_interrupt(self) -> Controller
         ensures { result ≡ sensed_of self }
     {
@@ -281,6 +295,7 @@ impl Controller {
     }
 
     // 80 for a busy drive.
+    #[tactic(auto, unfolding(crate::specs::Commands::sought_of))]
     fn seek(self) -> Controller
         ensures { result ≡ sought_of self }
     {
@@ -295,6 +310,7 @@ impl Controller {
         self.with_drive(unit, moved).idled()
     }
 
+    #[tactic(auto, unfolding(crate::specs::Commands::recalibrated_of))]
     fn recalibrate(self) -> Controller
         ensures { result ≡ recalibrated_of self }
     {
@@ -333,6 +349,7 @@ impl Controller {
         self.started(format_order(command))
     }
 
+    #[tactic(auto, unfolding(crate::specs::Commands::ran_of))]
     fn carry_out(self, kind: Kind) -> Controller
         ensures { result ≡ ran_of kind self }
     {
@@ -355,6 +372,7 @@ impl Controller {
     }
 
     // A complete command.
+    #[tactic(auto, unfolding(crate::specs::Commands::run_of))]
     fn run(self, kind: Kind) -> Controller
         ensures { result ≡ run_of kind self }
     {
@@ -367,6 +385,7 @@ impl Controller {
     }
 
     // One command byte more; past the ninth it is put nowhere.
+    #[tactic(auto, unfolding(crate::specs::Commands::gathered_of))]
     pub fn gathered(self, byte: u8) -> Controller
         ensures { result ≡ gathered_of byte self }
     {
@@ -383,6 +402,7 @@ impl Controller {
     }
 
     // With the bytes so far the command runs, or waits for more.
+    #[tactic(auto, unfolding(crate::specs::Commands::goes_on))]
     pub fn go_on(self, entry: Entry) -> Controller
         ensures { result ≡ goes_on entry self }
     {
@@ -395,6 +415,7 @@ impl Controller {
     }
 
     // The first byte of a command, whatever was held.
+    #[tactic(auto, unfolding(crate::specs::Commands::begun_of))]
     pub fn begin(self, byte: u8) -> Controller
         ensures { result ≡ begun_of byte self }
     {

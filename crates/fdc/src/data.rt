@@ -29,6 +29,7 @@ fn one_less(n: u8) -> u8
 }
 
 // The results behind the first, so that what is left is all that is held.
+#[tactic(auto, using(crate::proofs::PadLaws::rest_fits, crate::proofs::PadLaws::rest_is))]
 fn shift(bytes: [u8; RESULTS]) -> [u8; RESULTS]
     ensures { result ≡ shifted bytes }
 {
@@ -70,6 +71,7 @@ fn phase_hears(phase: Phase) -> bool
 
 impl Controller {
     // After the last result byte it is idle.
+    #[tactic(auto, unfolding(crate::specs::Data::result_taken))]
     fn result_taken(self) -> Controller
         ensures { result ≡ result_taken self }
     {
@@ -82,6 +84,7 @@ impl Controller {
         self.answered(false, shift(results), one_less(bytes.left))
     }
 
+    #[tactic(auto, unfolding(crate::specs::Data::read_in))]
     fn read_in(self, phase: Phase) -> Answer
         ensures { result ≡ read_in phase self }
     {
@@ -104,6 +107,7 @@ impl Controller {
     }
 
     // RQM and DIO, MSR's two upper bits, are both 1.
+    #[tactic(auto, unfolding(crate::specs::Data::read_fifo))]
     pub fn read_fifo(self) -> Answer
         ensures { result ≡ read_fifo self }
     {
@@ -115,6 +119,7 @@ impl Controller {
         self.answer(Reply::Refused(Refusal::Turn))
     }
 
+    #[tactic(auto, unfolding(crate::specs::Data::offered_of))]
     fn offer(self, phase: Phase, byte: u8) -> Controller
         ensures { result ≡ offered_of phase byte self }
     {
@@ -129,6 +134,7 @@ impl Controller {
     }
 
     // RQM is 1 and DIO 0.
+    #[tactic(auto, unfolding(crate::specs::Data::write_fifo))]
     pub fn write_fifo(self, byte: u8) -> Answer
         ensures { result ≡ write_fifo byte self }
     {
@@ -141,6 +147,7 @@ impl Controller {
     }
 
     // A byte moved the way the flow goes.
+    #[tactic(auto, unfolding(crate::specs::Data::moved_of))]
     fn moved(self, flow: Flow, byte: u8, tc: bool) -> Answer
         ensures { result ≡ moved_of flow byte tc self }
     {
@@ -160,6 +167,7 @@ impl Controller {
     }
 
     // One DMA cycle, with the byte on the bus: the phase says the direction.
+    #[tactic(auto, unfolding(crate::specs::Data::cycle_of))]
     fn cycle(self, byte: u8, tc: bool) -> Answer
         ensures { result ≡ cycle_of byte tc self }
     {
@@ -171,6 +179,7 @@ impl Controller {
         self.answer(Reply::Refused(Refusal::Line))
     }
 
+    #[tactic(auto, unfolding(crate::specs::Data::dma_read_of))]
     pub fn dma_taken(self, tc: bool) -> Answer
         ensures { result ≡ dma_read_of tc self }
     {
@@ -182,6 +191,7 @@ impl Controller {
         self.answer(Reply::Refused(Refusal::Line))
     }
 
+    #[tactic(auto, unfolding(crate::specs::Data::dma_write_of))]
     pub fn dma_given(self, byte: u8, tc: bool) -> Answer
         ensures { result ≡ dma_write_of byte tc self }
     {

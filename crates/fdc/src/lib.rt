@@ -1,5 +1,7 @@
 // The controller: its record and its seven calls (01). The mechanics of a drive, a data command at work, the chip's
 // rules and the image file stand in the crates below.
+#![tactic(auto)]
+
 pub mod answer;
 pub mod calls;
 pub mod commands;

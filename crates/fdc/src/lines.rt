@@ -60,6 +60,7 @@ fn motor_weight(drive: u8) -> u8
 }
 
 // 01 Registers DOR: motors are bits 4 to 7.
+#[tactic(auto, unfolding(crate::specs::Registers::motor_in))]
 pub fn motor(dor: u8, drive: u8) -> bool
     ensures { result ≡ motor_in dor drive }
 {
@@ -73,6 +74,7 @@ fn one_if(on: bool) -> u8
     if on { 1 } else { 0 }
 }
 
+#[tactic(auto, unfolding(crate::specs::Registers::busy_bits))]
 fn busy_bits(drives: [Drive; 4]) -> u8
     ensures value { result ≡ busy_bits drives }
     ensures upper_bound { result ≤ 15 }
@@ -84,6 +86,7 @@ fn busy_bits(drives: [Drive; 4]) -> u8
     one_if(a.busy) + 2 * one_if(b.busy) + 4 * one_if(c.busy) + 8 * one_if(d.busy)
 }
 
+#[tactic(auto, unfolding(crate::specs::Registers::any_busy))]
 pub fn any_busy(drives: [Drive; 4]) -> bool
     ensures { result ≡ any_busy drives }
 {
@@ -94,6 +97,7 @@ pub fn any_busy(drives: [Drive; 4]) -> bool
     a.busy | b.busy | c.busy | d.busy
 }
 
+#[tactic(auto, unfolding(crate::specs::Registers::pending_in))]
 fn pending(drives: [Drive; 4]) -> bool
     ensures { result ≡ pending_in drives }
 {
@@ -201,6 +205,7 @@ fn unless(off: bool, value: u8) -> u8
 }
 
 impl Controller {
+    #[tactic(auto, unfolding(crate::specs::Registers::msr_of))]
     pub fn msr(self) -> u8
         ensures { result ≡ msr_of self }
     {
@@ -210,6 +215,7 @@ impl Controller {
         unless(held(self.registers.dor), status + busy_bits(drives))
     }
 
+    #[tactic(auto, unfolding(crate::specs::Registers::int_of))]
     pub fn int(self) -> bool
         ensures { result ≡ int_of self }
     {
@@ -219,6 +225,7 @@ impl Controller {
         gate(self.registers.dor) & (pending(drives) | loud(phase) | request)
     }
 
+    #[tactic(auto, unfolding(crate::specs::Registers::drq_of))]
     pub fn drq(self) -> bool
         ensures { result ≡ drq_of self }
     {
@@ -227,6 +234,7 @@ impl Controller {
     }
 
     // 01 Registers DIR: the change flag of the drive in DOR, if its motor bit is on.
+    #[tactic(auto, unfolding(crate::specs::Registers::dir_of))]
     pub fn dir(self) -> u8
         ensures { result ≡ dir_of self }
     {

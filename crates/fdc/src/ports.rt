@@ -6,7 +6,7 @@ use crate::answer::{Answer, Reply};
 use crate::record::Controller;
 use chip::refusal::Refusal;
 
-#[derive(Drop)]
+#[derive(Clone, Copy)]
 pub enum Port {
     None,
     Dor,
@@ -16,6 +16,7 @@ pub enum Port {
     Input,
 }
 
+#[tactic(auto, unfolding(crate::specs::Calls::port_of))]
 pub fn port_of(offset: u8) -> Port
     ensures { result ≡ port_of offset }
 {
@@ -30,6 +31,7 @@ pub fn port_of(offset: u8) -> Port
 }
 
 impl Controller {
+    #[tactic(auto, unfolding(crate::specs::Calls::read_reg))]
     pub fn read_register(self, port: Port) -> Answer
         ensures { result ≡ read_reg port self }
     {
@@ -43,6 +45,7 @@ impl Controller {
         }
     }
 
+    #[tactic(auto, unfolding(crate::specs::Calls::write_reg))]
     pub fn write_register(self, port: Port, byte: u8) -> Answer
         ensures { result ≡ write_reg port byte self }
     {

@@ -25,7 +25,7 @@ use engine::flow::wait_of;
 use sectors::order::Order;
 use sectors::work::Work;
 
-#[derive(Drop)]
+#[derive(Clone, Copy)]
 pub struct Registers {
     pub dor: u8,
     pub tdr: u8,
@@ -44,7 +44,7 @@ pub struct Registers {
 pub const RESULTS: usize = 7;
 
 // Command bytes gathered, and result bytes left, the next one first. What is not in use is 0.
-#[derive(Drop)]
+#[derive(Clone, Copy)]
 pub struct Bytes {
     pub command: [u8; 9],
     pub gathered: u8,
@@ -53,7 +53,7 @@ pub struct Bytes {
 }
 
 // 01 Form phase.
-#[derive(Drop)]
+#[derive(Clone, Copy)]
 pub enum Phase {
     Idle,
     Gathering(Entry),
@@ -66,7 +66,7 @@ pub enum Phase {
     Answering(bool),
 }
 
-#[derive(Drop)]
+#[derive(Clone, Copy)]
 pub struct Controller {
     pub registers: Registers,
     pub drives: [Drive; 4],
@@ -76,6 +76,7 @@ pub struct Controller {
 }
 
 // Result bytes with zeros behind them, up to their room.
+#[tactic(auto, using(crate::proofs::PadLaws::one_more_lem, crate::proofs::PadLaws::all_in))]
 pub(crate) fn pad(bytes: &[u8]) -> [u8; RESULTS]
     requires { length bytes.now ≤ result_room }
     ensures { result ≡ padded bytes.now }
@@ -155,6 +156,7 @@ impl Bytes {
 
 impl Controller {
     // 01 Form power-on: the power-on state, with the heads of drives 0 and 1 where they stand.
+    #[tactic(auto, unfolding(crate::specs::Record::fresh_of))]
     pub fn new(head0: u8, head1: u8) -> Controller
         ensures { result ≡ fresh_of head0 head1 }
     {
@@ -176,6 +178,7 @@ impl Controller {
         }
     }
 
+    #[tactic(auto, unfolding(crate::specs::Record::with_registers))]
     pub fn with_registers(self, registers: Registers) -> Controller
         ensures { result ≡ with_registers registers self }
     {
@@ -184,6 +187,7 @@ impl Controller {
         c
     }
 
+    #[tactic(auto, unfolding(crate::specs::Record::with_drives))]
     pub fn with_drives(self, drives: [Drive; 4]) -> Controller
         ensures { result ≡ with_drives drives self }
     {
@@ -192,6 +196,7 @@ impl Controller {
         c
     }
 
+    #[tactic(auto, unfolding(crate::specs::Record::with_fifo))]
     pub fn with_fifo(self, fifo: Fifo) -> Controller
         ensures { result ≡ with_fifo fifo self }
     {
@@ -200,6 +205,7 @@ impl Controller {
         c
     }
 
+    #[tactic(auto, unfolding(crate::specs::Record::with_bytes))]
     pub fn with_bytes(self, bytes: Bytes) -> Controller
         ensures { result ≡ with_bytes bytes self }
     {
@@ -208,6 +214,7 @@ impl Controller {
         c
     }
 
+    #[tactic(auto, unfolding(crate::specs::Record::with_phase))]
     pub fn with_phase(self, phase: Phase) -> Controller
         ensures { result ≡ with_phase phase self }
     {
@@ -233,6 +240,7 @@ impl Controller {
         drives[k]
     }
 
+    #[tactic(auto, unfolding(crate::specs::Record::with_drive))]
     pub fn with_drive(self, number: u8, d: Drive) -> Controller
         ensures { result ≡ with_drive (number % 4) d self }
     {
@@ -243,6 +251,7 @@ impl Controller {
     }
 
     // 01 Refusals 4: whether the record has none of the six faults.
+    #[tactic(auto, unfolding(crate::specs::Record::valid_of))]
     pub fn valid(self) -> bool
         ensures { result ≡ valid_of self }
     {

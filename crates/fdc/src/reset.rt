@@ -30,6 +30,7 @@ fn reset_fifo_part(registers: Registers) -> Registers
     r
 }
 
+#[tactic(auto, unfolding(crate::specs::Reset::reset_all))]
 fn reset_all(drives: [Drive; 4]) -> [Drive; 4]
     ensures { result ≡ reset_all drives }
 {
@@ -40,6 +41,7 @@ fn reset_all(drives: [Drive; 4]) -> [Drive; 4]
     [a.reset(), b.reset(), c.reset(), d.reset()]
 }
 
+#[tactic(auto, unfolding(crate::specs::Reset::report_all))]
 fn report_all(drives: [Drive; 4]) -> [Drive; 4]
     ensures { result ≡ report_all drives }
 {
@@ -56,6 +58,7 @@ fn report_all(drives: [Drive; 4]) -> [Drive; 4]
 }
 
 impl Controller {
+    #[tactic(auto, unfolding(crate::specs::Reset::reset_of))]
     pub fn reset(self) -> Controller
         ensures { result ≡ reset_of self }
     {
@@ -73,6 +76,7 @@ impl Controller {
         }
     }
 
+    #[tactic(auto, unfolding(crate::specs::Reset::released_by))]
     fn release_by(self, poll: bool) -> Controller
         ensures { result ≡ released_by poll self }
     {
@@ -84,12 +88,14 @@ impl Controller {
     }
 
     // POLL 0 gives each of drives 0 to 3 a report.
+    #[tactic(auto, unfolding(crate::specs::Reset::released_of))]
     fn release(self) -> Controller
         ensures { result ≡ released_of self }
     {
         self.release_by(self.registers.poll)
     }
 
+    #[tactic(auto, unfolding(crate::specs::Reset::with_dor))]
     fn with_dor(self, byte: u8) -> Controller
         ensures { result ≡ with_dor byte self }
     {
@@ -98,6 +104,7 @@ impl Controller {
         self.with_registers(r)
     }
 
+    #[tactic(auto, unfolding(crate::specs::Reset::with_tdr))]
     pub fn with_tdr(self, byte: u8) -> Controller
         ensures { result ≡ with_tdr byte self }
     {
@@ -106,6 +113,7 @@ impl Controller {
         self.with_registers(r)
     }
 
+    #[tactic(auto, unfolding(crate::specs::Reset::with_rate))]
     pub fn with_rate(self, byte: u8) -> Controller
         ensures { result ≡ with_rate byte self }
     {
@@ -115,6 +123,7 @@ impl Controller {
     }
 
     // Bit 2 low resets; going high it releases.
+    #[tactic(auto, unfolding(crate::specs::Reset::wrote_dor))]
     pub fn write_dor(self, byte: u8) -> Controller
         ensures { result ≡ wrote_dor byte self }
     {
@@ -130,6 +139,7 @@ impl Controller {
     }
 
     // Bit 7 resets and releases at once, but adds nothing while DOR holds reset. The rate is stored in any case.
+    #[tactic(auto, unfolding(crate::specs::Reset::wrote_dsr))]
     pub fn write_dsr(self, byte: u8) -> Controller
         ensures { result ≡ wrote_dsr byte self }
     {

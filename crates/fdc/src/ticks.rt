@@ -37,7 +37,7 @@ use sectors::order::Order;
 use sectors::work::{Step, Then, Work};
 
 // What a tick gives before its store is made: the record, and the effect on the image of the drive named.
-#[derive(Drop)]
+#[derive(Clone, Copy)]
 pub struct Decision {
     pub controller: Controller,
     pub drive: u8,
@@ -45,6 +45,7 @@ pub struct Decision {
 }
 
 // 01 Image mounted: the disk of a drive, if its motor bit is on.
+#[tactic(auto, unfolding(crate::specs::Ticks::seen_of))]
 fn seen(dor: u8, drive: u8, s: &[u8]) -> Disk
     ensures { result ≡ seen_of dor drive s.now }
 {
@@ -75,6 +76,7 @@ fn protected(disk: Disk) -> bool
 }
 
 // Drives 2 and 3 are never mounted.
+#[tactic(auto, unfolding(crate::specs::Ticks::tick_all))]
 fn tick_all(drives: [Drive; 4], mounted0: bool, mounted1: bool, ticks: u16) -> [Drive; 4]
     ensures { result ≡ tick_all drives mounted0 mounted1 ticks }
 {
@@ -109,6 +111,7 @@ fn weight(on: bool, value: u8) -> u8
 }
 
 // 01 Commands Sense Drive: write protect 40, track 0 10, and 28 always.
+#[tactic(auto, unfolding(crate::specs::Ticks::st3_of))]
 fn st3(unit: u8, protect: bool, head: u8) -> u8
     ensures { result ≡ st3_of unit protect head }
 {
@@ -118,6 +121,7 @@ fn st3(unit: u8, protect: bool, head: u8) -> u8
 
 impl Controller {
     // Drives that stand have no tick: no image is looked at for them.
+    #[tactic(auto, using(crate::proofs::StandLaws::all_stand_stepped), unfolding(crate::specs::Ticks::stepped_of))]
     fn stepped(self, a: &[u8], b: &[u8]) -> Controller
         ensures { result ≡ stepped_of a.now b.now self }
     {
@@ -132,6 +136,7 @@ impl Controller {
     }
 
     // 01 Commands Sense Drive: ST3, which raises no INT.
+    #[tactic(auto, unfolding(crate::specs::Ticks::sensed_at))]
     fn sense(self, unit: u8, s: &[u8]) -> Controller
         ensures { result ≡ sensed_at unit s.now self }
     {
@@ -141,6 +146,7 @@ impl Controller {
     }
 
     // The seven result bytes, or the command goes on.
+    #[tactic(auto, unfolding(crate::specs::Ticks::settled_of))]
     fn settle(self, then: Then, fifo: Fifo) -> Controller
         ensures { result ≡ settled_of then fifo self }
     {
@@ -154,6 +160,7 @@ impl Controller {
         }
     }
 
+    #[tactic(auto, unfolding(crate::specs::Ticks::still_of))]
     fn still(self) -> Decision
         ensures { result ≡ still_of self }
     {
@@ -164,6 +171,7 @@ impl Controller {
         }
     }
 
+    #[tactic(auto, unfolding(crate::specs::Ticks::decided_of))]
     fn decided(self, drive: u8, step: Step) -> Decision
         ensures { result ≡ decided_of drive step self }
     {
@@ -177,6 +185,7 @@ impl Controller {
         }
     }
 
+    #[tactic(auto, unfolding(crate::specs::Ticks::start_tick))]
     fn start(self, order: Order, s: &[u8]) -> Decision
         ensures { result ≡ start_tick order s.now self }
     {
@@ -186,6 +195,7 @@ impl Controller {
         self.decided(order.drive, begin(order, disk, d.head, fifo))
     }
 
+    #[tactic(auto, unfolding(crate::specs::Ticks::work_tick))]
     fn work(self, work: Work, s: &[u8]) -> Decision
         ensures { result ≡ work_tick work s.now self }
     {
@@ -207,6 +217,7 @@ impl Controller {
 }
 
 impl Controller {
+    #[tactic(auto, unfolding(crate::specs::Ticks::decide_in))]
     fn decide_in<'a>(self, phase: Phase, a: &'a [u8], b: &'a [u8]) -> Decision
         ensures { result ≡ decide_in phase a.now b.now self }
     {
@@ -221,6 +232,7 @@ impl Controller {
     }
 
     // What a tick does, for any record: the store is not made here.
+    #[tactic(auto, unfolding(crate::specs::Ticks::decide_of))]
     pub fn decide<'a>(self, a: &'a [u8], b: &'a [u8]) -> Decision
         ensures { result ≡ decide_of a.now b.now self }
     {
@@ -233,6 +245,7 @@ impl Controller {
     }
 
     // One byte time, over the two images.
+    #[tactic(auto, unfolding(crate::specs::Ticks::still_of, crate::specs::Ticks::ruled_of, crate::specs::Ticks::tick_of, crate::specs::Ticks::image_after))]
     pub fn tick(self, a: &mut [u8], b: &mut [u8]) -> Answer
         ensures answer { result ≡ tick_of a.old b.old self }
         ensures first { a.new ≡ image_after 0 a.old b.old self a.old }

@@ -5,7 +5,7 @@ use crate::fault::{name_fault, system_fault};
 use crate::load::load;
 
 // An image's file, -1 for none, and how many bytes it has. Not good: it could not be read.
-#[derive(Drop)]
+#[derive(Clone, Copy)]
 pub struct Image {
     pub fd: i32,
     pub length: usize,

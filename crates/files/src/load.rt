@@ -1,7 +1,7 @@
 // Bytes read to their end, into a slice that may be longer than they are.
 
 // How many bytes came, and what there was behind them: a byte more, 1; the end, 0; a read that failed, -1.
-#[derive(Drop)]
+#[derive(Clone, Copy)]
 pub struct Loaded {
     pub length: usize,
     pub more: isize,

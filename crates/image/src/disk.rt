@@ -5,7 +5,7 @@ ghost use Rattle.image.specs.Disk.{within, in_range, header_in, geometry_of, geo
 use crate::layout::Geometry;
 
 // What a slice is to a drive.
-#[derive(Drop)]
+#[derive(Clone, Copy)]
 pub enum Disk {
     Absent,
     Present(Geometry),
@@ -42,6 +42,7 @@ pub fn geometry_of(cylinders: u8, heads: u8, slots: u8, n: u8, protect: u8) -> G
 }
 
 // Tag 01, length 5, and five bytes in range.
+#[tactic(auto, unfolding(crate::specs::Disk::header_in))]
 fn header_ok(s: &[u8]) -> bool
     requires { 8 ≤ length s.now }
     ensures { result ≡ header_in s.now }
@@ -49,6 +50,7 @@ fn header_ok(s: &[u8]) -> bool
     (s[0] == 1) & (s[1] == 0) & (s[2] == 5) & ranges(s[3], s[4], s[5], s[6], s[7])
 }
 
+#[tactic(auto, unfolding(crate::specs::Disk::geometry_in))]
 fn geometry_in(s: &[u8]) -> Geometry
     requires { 8 ≤ length s.now }
     ensures { result ≡ geometry_in s.now }
@@ -57,6 +59,7 @@ fn geometry_in(s: &[u8]) -> Geometry
 }
 
 // Fewer bytes than a header are as long as no header asks.
+#[tactic(auto, using(crate::proofs::DiskLaws::short_absent), unfolding(crate::specs::Disk::disk_in))]
 pub fn disk_in(s: &[u8]) -> Disk
     ensures { result ≡ disk_in s.now }
 {

@@ -5,7 +5,7 @@ ghost use Rattle.image.specs.Layout.{size_of, slot_length, track_length, length_
 use crate::bytes::wide;
 
 // What a header says of its disk.
-#[derive(Drop)]
+#[derive(Clone, Copy)]
 pub struct Geometry {
     pub cylinders: u8,
     pub heads: u8,
@@ -15,6 +15,7 @@ pub struct Geometry {
 }
 
 // B by N.
+#[tactic(auto, unfolding(crate::specs::Layout::size_of))]
 pub fn size_of(n: u8) -> usize
     ensures value { result ≡ size_of n }
     ensures upper_bound { result ≤ 1024 }
@@ -30,6 +31,7 @@ pub fn size_of(n: u8) -> usize
 
 impl Geometry {
     // The bytes of k slots.
+    #[tactic(auto, using(crate::proofs::LayoutLaws::product_le))]
     pub fn slots_length(self, k: u8) -> usize
         ensures value { result ≡ k * slot_length self }
         ensures upper_bound { result ≤ 262395 }
@@ -38,6 +40,7 @@ impl Geometry {
     }
 
     // The bytes of that many tracks, each with its tag, length, cylinder and side.
+    #[tactic(auto, using(crate::proofs::LayoutLaws::product_le), unfolding(crate::specs::Layout::track_length))]
     fn tracks_length(self, tracks: usize) -> usize
         requires { tracks ≤ 65280 }
         ensures value { result ≡ tracks * track_length self }
@@ -47,6 +50,7 @@ impl Geometry {
     }
 
     // The length that a header asks of its whole image.
+    #[tactic(auto, unfolding(crate::specs::Layout::length_of))]
     pub fn length(self) -> usize
         ensures { result ≡ length_of self }
     {
@@ -54,6 +58,7 @@ impl Geometry {
     }
 
     // Where a track's tag stands. The bound lets a caller add to it.
+    #[tactic(auto, unfolding(crate::specs::Layout::track_at))]
     pub fn track(self, cylinder: u8, side: u8) -> usize
         ensures value { result ≡ track_at self cylinder side }
         ensures upper_bound { result ≤ 17129472008 }
@@ -63,6 +68,7 @@ impl Geometry {
     }
 
     // Where a slot's mark stands. The bound lets a caller add to it.
+    #[tactic(auto, unfolding(crate::specs::Layout::offset_of))]
     pub fn offset(self, cylinder: u8, side: u8, slot: u8) -> usize
         ensures value { result ≡ offset_of self cylinder side slot }
         ensures upper_bound { result ≤ 17129734408 }
@@ -71,6 +77,7 @@ impl Geometry {
     }
 
     // Whether two headers say the same in all five.
+    #[tactic(auto, unfolding(crate::specs::Layout::same_of))]
     pub fn same(self, g: Geometry) -> bool
         ensures { result ≡ same_of self g }
     {

@@ -14,7 +14,7 @@ pub fn pick<'a>(drive: u8, a: &'a [u8], b: &'a [u8]) -> &'a [u8]
 }
 
 // What a tick does to the image picked.
-#[derive(Drop)]
+#[derive(Clone, Copy)]
 pub enum Effect {
     Nothing,
     Store { at: usize, byte: u8 },

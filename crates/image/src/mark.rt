@@ -2,13 +2,14 @@
 ghost use Rattle.std.specs.Prelude.{◌≡◌};
 ghost use Rattle.image.specs.Mark.{mark_of, byte_of};
 
-#[derive(Drop)]
+#[derive(Clone, Copy)]
 pub enum Mark {
     NoId,
     Data { deleted: bool, broken: bool },
     NoData,
 }
 
+#[tactic(auto, unfolding(crate::specs::Mark::mark_of))]
 pub fn mark_of(byte: u8) -> Mark
     ensures { result ≡ mark_of byte }
 {

@@ -1,6 +1,8 @@
 // The judge of image files (02 2026-04), `judge FILE ..`: a line for each file, sound or the first fault. Files are only
 // read. One that cannot be had, or is larger than 2,097,152 bytes, is named on standard error, and the rest are judged.
 // What is wrong and where is decided in `judging`.
+#![tactic(auto)]
+
 mod report;
 mod words;
 

@@ -24,6 +24,7 @@ fn in_group(a: Id, b: Id) -> bool
 
 // One group from slot `lead` on, whose C, H and N it has, up to slot `end`: the first slot whose R was already met, else
 // `end`. Its slots are marked in `done`.
+#[tactic(auto, using(crate::proofs::GroupLaws::member, crate::proofs::GroupLaws::pass_begins, crate::proofs::GroupLaws::pass_twice, crate::proofs::GroupLaws::pass_ends, crate::proofs::GroupLaws::pass_other, crate::proofs::GroupLaws::pass_new))]
 fn pass(
     s: &[u8],
     g: Geometry,
@@ -58,6 +59,7 @@ fn pass(
 
 // The first slot of a track that has the address of an earlier one; S where there is none. A group is passed once, with at
 // most S looks, and no pass goes on where an earlier double is known.
+#[tactic(auto, using(image::proofs::TestLaws::both, crate::proofs::GroupLaws::look_begins, crate::proofs::GroupLaws::look_on, crate::proofs::GroupLaws::look_passed, crate::proofs::GroupLaws::look_ends))]
 pub fn first_double(s: &[u8], g: Geometry, cylinder: u8, side: u8) -> u8
     ensures { First (twice_at (slots_in g s.now cylinder side)) g.slots result }
 {
@@ -82,6 +84,7 @@ fn same_address(a: Slot, b: Slot) -> bool
 }
 
 // The first slot before slot k that has its address; k where there is none.
+#[tactic(auto, using(crate::proofs::TwiceLaws::none_more))]
 pub fn first_same(s: &[u8], g: Geometry, cylinder: u8, side: u8, k: u8) -> u8
     ensures { let slots = slots_in g s.now cylinder side in
         First (λ j. same_address (slots j) (slots k)) k result }

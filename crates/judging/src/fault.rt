@@ -5,7 +5,7 @@ ghost use Rattle.judging.specs.Verdict.{is_fault, bytes_fault, number_of};
 use image::bytes::byte_at;
 
 // What a fault is in.
-#[derive(Drop)]
+#[derive(Clone, Copy)]
 pub enum Kind {
     Header,
     Length,
@@ -22,13 +22,13 @@ pub enum Kind {
 }
 
 // Its kind, and its byte's offset in the file.
-#[derive(Drop)]
+#[derive(Clone, Copy)]
 pub struct Fault {
     pub kind: Kind,
     pub at: usize,
 }
 
-#[derive(Drop)]
+#[derive(Clone, Copy)]
 pub enum Verdict {
     Sound,
     Faulty(Fault),
@@ -59,6 +59,7 @@ pub fn is_fault(v: Verdict) -> bool
 }
 
 // The first of these bytes that the image does not have from `at` on.
+#[tactic(auto, using(crate::proofs::VerdictLaws::first_none, crate::proofs::VerdictLaws::first_more, crate::proofs::VerdictLaws::first_there))]
 pub(crate) fn bytes_fault(s: &[u8], kind: Kind, at: usize, bytes: &[u8]) -> Verdict
     requires at_bound { at ≤ 17129734408 }
     requires bytes_len_bound { length bytes.now ≤ 8 }

@@ -26,6 +26,7 @@ const LEAST: [u8; 8] = [0x01, 0x00, 0x05, 1, 1, 1, 1, 0];
 const MOST: [u8; 8] = [0x01, 0x00, 0x05, 82, 2, 36, 3, 1];
 
 // An image that ends inside the header is wrong at its end.
+#[tactic(auto, using(crate::proofs::VerdictLaws::first_none, crate::proofs::VerdictLaws::first_more, crate::proofs::VerdictLaws::first_there))]
 fn header_fault(s: &[u8]) -> Verdict
     ensures { result ≡ header_fault s.now }
 {
@@ -49,6 +50,7 @@ fn header_fault(s: &[u8]) -> Verdict
     Verdict::Sound
 }
 
+#[tactic(auto, unfolding(image::specs::Disk::geometry_in))]
 fn geometry(s: &[u8]) -> Geometry
     ensures { result ≡ geometry_in s.now }
 {
@@ -62,6 +64,7 @@ fn geometry(s: &[u8]) -> Geometry
 }
 
 // 02 2026-04: at the smaller of the length asked and the length given.
+#[tactic(auto, unfolding(crate::specs::Judge::length_fault))]
 fn length_fault(s: &[u8], g: Geometry) -> Verdict
     ensures { result ≡ length_fault g s.now }
 {
@@ -83,6 +86,7 @@ fn length_fault(s: &[u8], g: Geometry) -> Verdict
 }
 
 // Tag 02 and the length of what follows; cylinder and side.
+#[tactic(auto, using(image::proofs::LayoutLaws::product_le, image::proofs::LayoutLaws::size_le, crate::proofs::VerdictLaws::left_sound, crate::proofs::VerdictLaws::fault_stays), unfolding(crate::specs::Judge::front_fault))]
 fn front_fault(s: &[u8], g: Geometry, cylinder: u8, side: u8) -> Verdict
     requires { InRange g }
     ensures { result ≡ front_fault g s.now cylinder side }
@@ -102,6 +106,7 @@ fn front_fault(s: &[u8], g: Geometry, cylinder: u8, side: u8) -> Verdict
 }
 
 // A mark above 5, or the track's first double.
+#[tactic(auto, using(crate::proofs::TwiceLaws::first_at, crate::proofs::TwiceLaws::first_below))]
 fn slot_fault(s: &[u8], g: Geometry, cylinder: u8, side: u8, k: u8, double: u8) -> Verdict
     requires first { First (twice_at (slots_in g s.now cylinder side)) g.slots double }
     requires k_le_double { k ≤ double }
@@ -126,6 +131,7 @@ fn slot_fault(s: &[u8], g: Geometry, cylinder: u8, side: u8, k: u8, double: u8) 
 }
 
 // 01 Form: nested loops over tracks and slots, left by label with the fault found.
+#[tactic(auto, using(crate::proofs::JudgeLaws::sound_below, crate::proofs::JudgeLaws::track_front, crate::proofs::JudgeLaws::track_slots, crate::proofs::VerdictLaws::left_sound, crate::proofs::VerdictLaws::first_none, crate::proofs::VerdictLaws::first_more, crate::proofs::VerdictLaws::first_found))]
 fn tracks_fault(s: &[u8], g: Geometry) -> Verdict
     requires { InRange g }
     ensures { result ≡ tracks_fault g s.now }
@@ -158,6 +164,7 @@ fn tracks_fault(s: &[u8], g: Geometry) -> Verdict
     found
 }
 
+#[tactic(auto, using(image::proofs::LayoutLaws::length_ge, image::proofs::DiskLaws::length_le))]
 fn end_fault(s: &[u8], g: Geometry) -> Verdict
     requires { InRange g }
     ensures { result ≡ end_fault g s.now }
@@ -166,6 +173,7 @@ fn end_fault(s: &[u8], g: Geometry) -> Verdict
 }
 
 // What follows a right header. A wrong length hides the rest.
+#[tactic(auto, using(crate::proofs::VerdictLaws::left_sound, crate::proofs::VerdictLaws::fault_stays), unfolding(crate::specs::Judge::body_fault))]
 fn body_fault(s: &[u8], g: Geometry) -> Verdict
     requires { InRange g }
     ensures { result ≡ body_fault g s.now }
@@ -182,6 +190,7 @@ fn body_fault(s: &[u8], g: Geometry) -> Verdict
 }
 
 // The verdict on any bytes. A wrong header hides the rest.
+#[tactic(auto, using(crate::proofs::HeaderLaws::right_range, crate::proofs::VerdictLaws::left_sound, crate::proofs::VerdictLaws::fault_stays), unfolding(crate::specs::Judge::judge_of))]
 pub fn judge(s: &[u8]) -> Verdict
     ensures { result ≡ judge_of s.now }
 {

@@ -6,7 +6,7 @@ ghost use Rattle.judging.specs.PlaceOf.{low_byte, place_of};
 use image::bytes::wide;
 use image::layout::Geometry;
 
-#[derive(Drop)]
+#[derive(Clone, Copy)]
 pub struct Place {
     pub cylinder: u8,
     pub side: u8,
@@ -29,6 +29,7 @@ fn less(x: usize, y: usize) -> usize
     x - y
 }
 
+#[tactic(auto, unfolding(crate::specs::PlaceOf::place_of, image::specs::Layout::track_length))]
 pub fn place_of(g: Geometry, at: usize) -> Place
     ensures { result ≡ place_of g at }
 {

@@ -5,13 +5,14 @@ ghost use Rattle.log_lines.specs.Gather.{no_text, added_to, line_within, gathere
 use crate::line::{Expected, Line, line_of};
 
 // The first `length` bytes of `text`. A line is at most 255 bytes long: the 256th only tells that there were more.
-#[derive(Drop)]
+#[derive(Clone, Copy)]
 pub struct Gathered {
     pub text: [u8; 256],
     pub length: usize,
 }
 
 // The line that the first bytes of a text are.
+#[tactic(auto, unfolding(crate::specs::Gather::line_within))]
 fn line_within(text: &[u8; 256], n: usize) -> Line
     ensures { result ≡ line_within text.now n }
 {
@@ -33,6 +34,7 @@ impl Gathered {
     }
 
     // What no longer fits is dropped.
+    #[tactic(auto, unfolding(crate::specs::Gather::added_to))]
     pub fn add(self, byte: u8) -> Gathered
         ensures { result ≡ added_to byte self }
     {

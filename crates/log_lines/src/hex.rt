@@ -4,13 +4,14 @@ ghost use Rattle.log_lines.specs.Hex.{hex_of, letter_of, hex_number, hex_in};
 
 use crate::words::{Word, byte_at};
 
-#[derive(Drop)]
+#[derive(Clone, Copy)]
 pub enum Number {
     Byte(u8),
     None,
 }
 
 // A digit's value; 16 where the byte is no digit.
+#[tactic(auto, using(crate::proofs::HexLaws::inside, crate::proofs::HexLaws::below, crate::proofs::HexLaws::above), unfolding(crate::specs::Hex::hex_of))]
 pub fn digit(byte: u8) -> u8
     ensures { result ≡ hex_of byte }
 {
@@ -23,6 +24,7 @@ pub fn digit(byte: u8) -> u8
 }
 
 // The digit of a byte's lower half.
+#[tactic(auto, unfolding(crate::specs::Hex::letter_of))]
 pub fn letter(value: u8) -> u8
     ensures { result ≡ letter_of value }
 {
@@ -33,6 +35,7 @@ pub fn letter(value: u8) -> u8
     b'A' + (low - 10)
 }
 
+#[tactic(auto, unfolding(crate::specs::Hex::hex_number))]
 fn number_of(high: u8, low: u8) -> Number
     ensures { result ≡ hex_number high low }
 {
@@ -45,6 +48,7 @@ fn number_of(high: u8, low: u8) -> Number
 }
 
 // What a word of one or two digits says; any other word says no number.
+#[tactic(auto, unfolding(crate::specs::Hex::hex_in))]
 pub fn number_in(s: &[u8], word: Word) -> Number
     ensures { result ≡ hex_in s.now word }
 {

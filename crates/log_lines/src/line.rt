@@ -5,7 +5,7 @@ ghost use Rattle.log_lines.specs.Line.{ended_at, read_from, byte_from, write_fro
 use crate::hex::{Number, number_in};
 use crate::words::{byte_at, letter_in, word_from};
 
-#[derive(Drop)]
+#[derive(Clone, Copy)]
 pub enum Expected {
     // `w` or `r`.
     Call,
@@ -17,7 +17,7 @@ pub enum Expected {
     Shorter,
 }
 
-#[derive(Drop)]
+#[derive(Clone, Copy)]
 pub enum Line {
     // A blank line, or a comment.
     Nothing,
@@ -28,6 +28,7 @@ pub enum Line {
 }
 
 // That line, where no word follows.
+#[tactic(auto, unfolding(crate::specs::Line::ended_at))]
 fn ended(t: &[u8], at: usize, line: Line) -> Line
     ensures { result ≡ ended_at t.now at line }
 {
@@ -39,6 +40,7 @@ fn ended(t: &[u8], at: usize, line: Line) -> Line
 }
 
 // What follows `r`.
+#[tactic(auto, unfolding(crate::specs::Line::read_from))]
 fn read_from(t: &[u8], at: usize) -> Line
     ensures { result ≡ read_from t.now at }
 {
@@ -51,6 +53,7 @@ fn read_from(t: &[u8], at: usize) -> Line
 }
 
 // What follows the offset of a write.
+#[tactic(auto, unfolding(crate::specs::Line::byte_from))]
 fn byte_from(t: &[u8], at: usize, offset: u8) -> Line
     ensures { result ≡ byte_from t.now at offset }
 {
@@ -63,6 +66,7 @@ fn byte_from(t: &[u8], at: usize, offset: u8) -> Line
 }
 
 // What follows `w`.
+#[tactic(auto, unfolding(crate::specs::Line::write_from))]
 fn write_from(t: &[u8], at: usize) -> Line
     ensures { result ≡ write_from t.now at }
 {
@@ -74,6 +78,7 @@ fn write_from(t: &[u8], at: usize) -> Line
     }
 }
 
+#[tactic(auto, unfolding(crate::specs::Line::call_in))]
 fn call_in(t: &[u8]) -> Line
     ensures { result ≡ call_in t.now }
 {
@@ -95,6 +100,7 @@ fn call_in(t: &[u8]) -> Line
 }
 
 // A line's length without the CR that may end it.
+#[tactic(auto, unfolding(crate::specs::Line::text_length))]
 pub fn text_length(s: &[u8]) -> usize
     ensures value { result ≡ text_length s.now }
     ensures upper_bound { result ≤ length s.now }
@@ -110,6 +116,7 @@ pub fn text_length(s: &[u8]) -> usize
 }
 
 // A line, without its line end.
+#[tactic(auto, unfolding(crate::specs::Line::line_of))]
 pub fn line_of(s: &[u8]) -> Line
     ensures { result ≡ line_of s.now }
 {

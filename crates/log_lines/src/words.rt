@@ -3,7 +3,7 @@ ghost use Rattle.std.specs.Prelude.{◌≡◌, ◌+◌, get_or, drop};
 ghost use Rattle.log_lines.specs.Words.{is_blank, run, word_length, word_from, letter_in};
 
 // From `start` up to, and without, `stop`. An empty word is none.
-#[derive(Drop)]
+#[derive(Clone, Copy)]
 pub struct Word {
     pub start: usize,
     pub stop: usize,
@@ -26,6 +26,7 @@ pub fn is_blank(byte: u8) -> bool
 }
 
 // Where the blanks that stand from a place on end, or the other bytes.
+#[tactic(auto, using(crate::proofs::WordLaws::step, crate::proofs::WordLaws::stop, crate::proofs::WordLaws::past))]
 fn skip(s: &[u8], at: usize, blank: bool) -> usize
     ensures { result ≡ at + run blank (drop at s.now) }
 {
@@ -41,6 +42,7 @@ fn skip(s: &[u8], at: usize, blank: bool) -> usize
 }
 
 // The first word from a place on.
+#[tactic(auto, unfolding(crate::specs::Words::word_from))]
 pub fn word_from(s: &[u8], at: usize) -> Word
     ensures { result ≡ word_from s.now at }
 {
@@ -61,6 +63,7 @@ impl Word {
 }
 
 // The one byte of a word of one; of any other word 0.
+#[tactic(auto, unfolding(crate::specs::Words::letter_in))]
 pub fn letter_in(s: &[u8], word: Word) -> u8
     ensures { result ≡ letter_in s.now word }
 {

@@ -15,7 +15,7 @@ use fdc::record::{Controller, Phase};
 use sectors::work::{Sector, Site, Stage, Task, Work};
 
 // The last tick's answer, and how many were made.
-#[derive(Drop)]
+#[derive(Clone, Copy)]
 pub struct Ran {
     pub answer: Answer,
     pub made: u32,
@@ -28,6 +28,7 @@ fn differ(int: bool, drq: bool, next_int: bool, next_drq: bool) -> bool
 }
 
 // The ticks left of n, each in full.
+#[tactic(auto, using(crate::proofs::RunLaws::image_length, crate::proofs::RunLaws::finished, crate::proofs::RunLaws::goes_on_lem, crate::proofs::RunLaws::stops, crate::proofs::RunLaws::parts))]
 fn run(c: Controller, a: &mut [u8], b: &mut [u8], n: u32, rest: u32) -> Ran
     requires { rest ≤ n }
     ensures answer { result.answer
@@ -58,6 +59,7 @@ fn run(c: Controller, a: &mut [u8], b: &mut [u8], n: u32, rest: u32) -> Ran
 }
 
 // Of n ticks some were made, from c to next, of which only the last may have changed a line.
+#[tactic(auto, using(crate::proofs::RunLaws::changed_lines))]
 fn onward(c: Controller, next: Controller, a: &mut [u8], b: &mut [u8], n: u32, left: u32) -> Ran
     requires { left ≤ n }
     ensures answer { result.answer
@@ -81,6 +83,7 @@ fn onward(c: Controller, next: Controller, a: &mut [u8], b: &mut [u8], n: u32, l
 }
 
 // A Read in a sector.
+#[tactic(auto, using(crate::proofs::StreamLaws::reads_ticks))]
 fn reading(
     c: Controller,
     site: Site,
@@ -123,6 +126,7 @@ fn reading(
 }
 
 // A Write in a sector.
+#[tactic(auto, using(crate::proofs::SectorLaws::stored_parts, crate::proofs::StreamLaws::stores_ticks))]
 fn storing(
     c: Controller,
     site: Site,
@@ -176,6 +180,7 @@ fn streamed(c: Controller, stream: Stream, a: &mut [u8], b: &mut [u8], n: u32) -
     }
 }
 
+#[tactic(auto, unfolding(crate::specs::Run::many_ticks))]
 pub fn ticks(c: Controller, a: &mut [u8], b: &mut [u8], n: u32) -> Ran
     ensures answer { result.answer ≡ (many_ticks n a.old b.old c).answer }
     ensures made { result.made ≡ (many_ticks n a.old b.old c).made }

@@ -12,7 +12,7 @@ use sectors::track::{data_place, pass_bytes};
 use sectors::work::{Site, Task};
 
 // How far it came: the sector's bytes counted, and the ticks not made.
-#[derive(Drop)]
+#[derive(Clone, Copy)]
 pub struct Pace {
     pub done: u16,
     pub fifo: Fifo,
@@ -32,6 +32,7 @@ fn read_rests(site: Site, task: Task, efifo: bool, done: u16, fifo: Fifo) -> boo
     fifo.tc | fifo.full(efifo) | (pass_bytes(site, task) <= done as usize + 1)
 }
 
+#[tactic(auto, using(crate::proofs::SectorLaws::read_room, crate::proofs::SectorLaws::read_over, crate::proofs::SectorLaws::read_rested, crate::proofs::SectorLaws::read_turned, crate::proofs::SectorLaws::read_on_lem))]
 fn read_bytes(
     slot: u8,
     from: u16,
@@ -116,6 +117,7 @@ fn store_rests(site: Site, task: Task, done: u16, fifo: Fifo) -> bool
     (pass_bytes(site, task) <= done as usize) | (fifo.count == 0)
 }
 
+#[tactic(auto, using(crate::proofs::SectorLaws::store_room, crate::proofs::SectorLaws::parts, crate::proofs::SectorLaws::put_length, crate::proofs::SectorLaws::store_over, crate::proofs::SectorLaws::store_rested, crate::proofs::SectorLaws::store_turned, crate::proofs::SectorLaws::store_on))]
 pub fn stores(
     slot: u8,
     from: u16,

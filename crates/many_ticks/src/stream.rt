@@ -22,7 +22,7 @@ use sectors::track::stays;
 use sectors::work::{Sector, Site, Stage, Task, Work};
 
 // The bytes of a Read to the host, those of a Write from it, or neither.
-#[derive(Drop)]
+#[derive(Clone, Copy)]
 pub enum Stream {
     Other,
     Reads(Site, Task, Sector, u16),
@@ -30,6 +30,7 @@ pub enum Stream {
 }
 
 // 01 Data commands: the disk of the first tick is in the drive, and its motor on.
+#[tactic(auto, unfolding(fdc::specs::Ticks::seen_of, sectors::specs::Track::stays_of))]
 fn there(dor: u8, drive: u8, met: Geometry, s: &[u8]) -> bool
     ensures { result ≡ stays_of (seen_of dor drive s.now) met }
 {
@@ -76,6 +77,7 @@ fn phase_stream(phase: Phase) -> Stream
     }
 }
 
+#[tactic(auto, unfolding(crate::specs::Stream::meets_of))]
 fn meets<'a>(dor: u8, site: Site, a: &'a [u8], b: &'a [u8]) -> bool
     ensures { result ≡ meets_of dor site a.now b.now }
 {
@@ -83,6 +85,7 @@ fn meets<'a>(dor: u8, site: Site, a: &'a [u8], b: &'a [u8]) -> bool
     there(dor, site.drive, disk, pick(site.drive, a, b))
 }
 
+#[tactic(auto, unfolding(crate::specs::Stream::kept))]
 fn keep<'a>(dor: u8, stream: Stream, a: &'a [u8], b: &'a [u8]) -> Stream
     ensures { result ≡ kept dor stream a.now b.now }
 {
@@ -106,6 +109,7 @@ fn keep<'a>(dor: u8, stream: Stream, a: &'a [u8], b: &'a [u8]) -> Stream
 }
 
 // Not held in reset, and no drive moves.
+#[tactic(auto, unfolding(crate::specs::Stream::rests_of))]
 fn rests(c: Controller) -> bool
     ensures rest { result ≡ rests_of c }
     ensures four { length c.drives ≡ 4 }
@@ -114,6 +118,7 @@ fn rests(c: Controller) -> bool
     !held(c.registers.dor) & all_stand(drives)
 }
 
+#[tactic(auto, unfolding(crate::specs::Stream::stream_in))]
 pub fn stream_in<'a>(c: Controller, a: &'a [u8], b: &'a [u8]) -> Stream
     ensures stream { result ≡ stream_in a.now b.now c }
     ensures four { length c.drives ≡ 4 }

@@ -37,6 +37,7 @@ pub fn pass_number(pass: Pass) -> u8
     }
 }
 
+#[tactic(auto, unfolding(crate::specs::Bytes::pass_numbered))]
 pub fn pass_numbered(n: u8) -> Pass
     ensures { result ≡ pass_numbered n }
 {

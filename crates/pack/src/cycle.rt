@@ -23,6 +23,7 @@ use crate::places::{
 use crate::rows::row_at;
 use chip::fifo::capacity;
 
+#[tactic(auto, unfolding(crate::specs::Cycle::asked_in))]
 fn asked(registers: [u8; 16], flow: [u8; 16], head: [u8; 16]) -> bool
     ensures { result ≡ asked_in registers flow head }
 {
@@ -33,24 +34,28 @@ fn asked(registers: [u8; 16], flow: [u8; 16], head: [u8; 16]) -> bool
         & (head[WORK_AT] == 1)
 }
 
+#[tactic(auto, unfolding(crate::specs::Cycle::fifo_bounded))]
 fn fifo_bounded(registers: [u8; 16], flow: [u8; 16]) -> bool
     ensures { result ≡ fifo_bounded registers flow }
 {
     (flow[COUNT_AT] <= capacity(registers[EFIFO_AT] == 1)) & (registers[FIFOTHR_AT] <= 15)
 }
 
+#[tactic(auto, unfolding(crate::specs::Cycle::counts_bounded))]
 fn counts_bounded(command: [u8; 16], results: [u8; 16], spot: [u8; 16]) -> bool
     ensures { result ≡ counts_bounded command results spot }
 {
     (command[GATHERED_AT] <= 9) & (results[LEFT_AT] <= 7) & (spot[SPOT_COUNT_AT] <= 64)
 }
 
+#[tactic(auto, unfolding(crate::specs::Cycle::still_in))]
 fn still(row: [u8; 16]) -> bool
     ensures { result ≡ still_in row }
 {
     (row[HEAD_AT] <= 81) & (row[MOTION_AT] == 0)
 }
 
+#[tactic(auto, unfolding(crate::specs::Cycle::bounded_in))]
 fn bounded(s: &[u8]) -> bool
     requires { record_size ≤ length s.now }
     ensures { result ≡ bounded_in s.now }
@@ -63,6 +68,7 @@ fn bounded(s: &[u8]) -> bool
         )
 }
 
+#[tactic(auto, unfolding(crate::specs::Cycle::drives_still))]
 fn drives_still(s: &[u8]) -> bool
     requires { record_size ≤ length s.now }
     ensures { result ≡ drives_still s.now }
@@ -73,6 +79,7 @@ fn drives_still(s: &[u8]) -> bool
         & still(row_at(s, DRIVE3_ROW))
 }
 
+#[tactic(auto, unfolding(crate::specs::Cycle::cycles_in))]
 fn cycles(s: &[u8]) -> bool
     requires { record_size ≤ length s.now }
     ensures { result ≡ cycles_in s.now }
@@ -86,6 +93,7 @@ fn cycles(s: &[u8]) -> bool
 }
 
 // A cycle to the host is due.
+#[tactic(auto, unfolding(crate::specs::Cycle::reading_in))]
 pub fn reading(s: &[u8]) -> bool
     ensures { result ≡ reading_in s.now }
 {
@@ -98,6 +106,7 @@ pub fn reading(s: &[u8]) -> bool
 }
 
 // A cycle from the host is due.
+#[tactic(auto, unfolding(crate::specs::Cycle::writing_in))]
 pub fn writing(s: &[u8]) -> bool
     ensures { result ≡ writing_in s.now }
 {
@@ -110,6 +119,7 @@ pub fn writing(s: &[u8]) -> bool
 }
 
 // A drive's report is pending.
+#[tactic(auto, unfolding(fdc::specs::Registers::pending_in, crate::specs::Bytes::loaded_of, crate::specs::Bytes::record_in, fdc::specs::Record::fresh_of))]
 pub fn pending(s: &[u8]) -> bool
     ensures { result ≡ pending_in (loaded_of s.now).drives }
 {
@@ -128,6 +138,7 @@ pub fn pending(s: &[u8]) -> bool
 }
 
 // 1: the FIFO holds one byte.
+#[tactic(auto, unfolding(crate::specs::Bytes::loaded_of, crate::specs::Bytes::record_in, fdc::specs::Record::fresh_of))]
 pub fn efifo(s: &[u8]) -> bool
     ensures { result ≡ (loaded_of s.now).registers.efifo }
 {

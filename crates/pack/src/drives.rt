@@ -9,7 +9,7 @@ use crate::places::{
 use drive::{Drive, Motion};
 
 // A motion with the fields of its cases side by side.
-#[derive(Drop)]
+#[derive(Clone, Copy)]
 pub struct Course {
     pub tag: u8,
     pub target: u8,
@@ -46,6 +46,7 @@ fn course_of(motion: Motion) -> Course
     }
 }
 
+#[tactic(auto, unfolding(crate::specs::Bytes::motion_of))]
 fn motion_of(tag: u8, target: u8, steps: u8, wait: u16) -> Motion
     ensures { result ≡ motion_of tag target steps wait }
 {

@@ -31,7 +31,7 @@ use sectors::order::{Job, Order, Pass, Plan, Transfer};
 use sectors::work::{Form, Search, Sector, Site, Stage, Task, Work};
 
 // A stage of a transfer, or of a Format.
-#[derive(Drop)]
+#[derive(Clone, Copy)]
 pub struct Spot {
     pub stage: u8,
     pub form: u8,
@@ -46,7 +46,7 @@ pub struct Spot {
     pub done: u16,
 }
 
-#[derive(Drop)]
+#[derive(Clone, Copy)]
 pub struct Flat {
     pub tag: u8,
     pub entry: Entry,
@@ -302,6 +302,7 @@ pub fn phase_flat(phase: Phase) -> Flat
     }
 }
 
+#[tactic(auto, unfolding(crate::specs::Flat::stage_from))]
 fn stage_of(spot: Spot) -> Stage
     ensures { result ≡ stage_from spot }
 {
@@ -328,6 +329,7 @@ fn stage_of(spot: Spot) -> Stage
     }
 }
 
+#[tactic(auto, unfolding(crate::specs::Flat::form_from))]
 fn form_of(spot: Spot) -> Form
     ensures { result ≡ form_from spot }
 {
@@ -340,6 +342,7 @@ fn form_of(spot: Spot) -> Form
     }
 }
 
+#[tactic(auto, unfolding(crate::specs::Flat::job_from))]
 fn job_of(work: u8, task: Task, plan: Plan) -> Job
     ensures { result ≡ job_from work task plan }
 {
@@ -352,6 +355,7 @@ fn job_of(work: u8, task: Task, plan: Plan) -> Job
     }
 }
 
+#[tactic(auto, unfolding(crate::specs::Flat::work_from))]
 fn work_of(work: u8, site: Site, task: Task, plan: Plan, spot: Spot) -> Work
     ensures { result ≡ work_from work site task plan spot }
 {
@@ -362,6 +366,7 @@ fn work_of(work: u8, site: Site, task: Task, plan: Plan, spot: Spot) -> Work
     }
 }
 
+#[tactic(auto, unfolding(crate::specs::Flat::phase_from))]
 pub fn phase_of(flat: Flat) -> Phase
     ensures { result ≡ phase_from flat }
 {

@@ -1,4 +1,6 @@
 // The controller's record in bytes (house): written to bytes that a caller lends, and read back from them.
+#![tactic(auto)]
+
 mod bytes;
 pub mod cycle;
 mod drives;

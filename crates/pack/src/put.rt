@@ -50,6 +50,7 @@ fn registers_row(r: Registers) -> [u8; 16]
     ]
 }
 
+#[tactic(auto, unfolding(crate::specs::Bytes::drives_put))]
 fn put_drives(s: &mut [u8], drives: [Drive; 4])
     requires { record_size ≤ length s.old }
     ensures stored { s.new ≡ drives_put drives s.old }
@@ -77,6 +78,7 @@ fn flow_row(f: Fifo) -> [u8; 16]
     [f.count, asks, tc, 0, 0, 0, 0, 0, 0, 0, 0, 0, 0, 0, 0, 0]
 }
 
+#[tactic(auto, unfolding(crate::specs::Bytes::fifo_put))]
 fn put_fifo(s: &mut [u8], f: Fifo)
     requires { record_size ≤ length s.old }
     ensures stored { s.new ≡ fifo_put f s.old }
@@ -110,6 +112,7 @@ fn result_row(b: Bytes) -> [u8; 16]
     ]
 }
 
+#[tactic(auto, unfolding(crate::specs::Bytes::gathered_put))]
 fn put_bytes(s: &mut [u8], b: Bytes)
     requires { record_size ≤ length s.old }
     ensures stored { s.new ≡ gathered_put b s.old }
@@ -222,6 +225,7 @@ fn spot_row(spot: Spot) -> [u8; 16]
     ]
 }
 
+#[tactic(auto, unfolding(crate::specs::Bytes::flat_put))]
 fn put_flat(s: &mut [u8], f: Flat)
     requires { record_size ≤ length s.old }
     ensures stored { s.new ≡ flat_put f s.old }
@@ -241,6 +245,7 @@ fn put_flat(s: &mut [u8], f: Flat)
     put_row(s, SPOT_ROW, d);
 }
 
+#[tactic(auto, using(crate::proofs::PutLaws::record_put))]
 fn put_record(s: &mut [u8], c: Controller)
     requires { record_size ≤ length s.old }
     ensures stored { s.new ≡ record_bytes c ++ drop record_size s.old }
@@ -261,6 +266,7 @@ fn put_record(s: &mut [u8], c: Controller)
 }
 
 // The record written to the bytes lent: those behind it stay, and too few stay as they are.
+#[tactic(auto, using(crate::proofs::BackLaws::holds), unfolding(crate::specs::Bytes::stored_of))]
 pub fn store(s: &mut [u8], c: Controller)
     ensures bytes { s.new ≡ stored_of c s.old }
     ensures back { record_size ≤ length s.old → HoldsRecord s.new c }
@@ -272,6 +278,7 @@ pub fn store(s: &mut [u8], c: Controller)
 }
 
 // The FIFO alone: of a record every other part stays.
+#[tactic(auto, using(crate::proofs::CycleLaws::holds_fifo, crate::proofs::PutLaws::record_long), unfolding(crate::specs::Bytes::fifo_stored))]
 pub fn store_fifo(s: &mut [u8], f: Fifo)
     ensures stored { s.new ≡ fifo_stored f s.old }
     ensures back { is_record s.old ≡ true

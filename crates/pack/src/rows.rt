@@ -27,6 +27,7 @@ pub fn row_at(s: &[u8], at: usize) -> [u8; 16]
     ]
 }
 
+#[tactic(auto, using(crate::proofs::PutLaws::row_put))]
 pub fn put_row(s: &mut [u8], at: usize, row: [u8; 16])
     requires { at + 16 ≤ length s.old }
     ensures { s.new ≡ sets s.old at (row_at row 0) }

@@ -233,6 +233,7 @@ fn bytes_in(s: &[u8]) -> Bytes
     bytes_of(command, results)
 }
 
+#[tactic(auto, unfolding(crate::specs::Bytes::record_in))]
 fn record_in(s: &[u8]) -> Controller
     requires { record_size ≤ length s.now }
     ensures { result ≡ record_in s.now }
@@ -251,36 +252,42 @@ fn record_in(s: &[u8]) -> Controller
     }
 }
 
+#[tactic(auto, unfolding(crate::specs::Bytes::registers_ok))]
 fn registers_ok(row: [u8; 16]) -> bool
     ensures { result ≡ registers_ok row }
 {
     (row[EIS_AT] <= 1) & (row[EFIFO_AT] <= 1) & (row[POLL_AT] <= 1)
 }
 
+#[tactic(auto, unfolding(crate::specs::Bytes::drive_ok))]
 fn drive_ok(row: [u8; 16]) -> bool
     ensures { result ≡ drive_ok row }
 {
     (row[CHANGED_AT] <= 1) & (row[BUSY_AT] <= 1) & (row[MOTION_AT] <= 2)
 }
 
+#[tactic(auto, unfolding(crate::specs::Bytes::flow_ok))]
 fn flow_ok(row: [u8; 16]) -> bool
     ensures { result ≡ flow_ok row }
 {
     (row[ASKS_AT] <= 1) & (row[TC_AT] <= 1)
 }
 
+#[tactic(auto, unfolding(crate::specs::Bytes::head_ok))]
 fn head_ok(row: [u8; 16]) -> bool
     ensures { result ≡ head_ok row }
 {
     (row[TAG_AT] <= 5) & (row[KIND_AT] <= 13) & (row[LOUD_AT] <= 1) & (row[WORK_AT] <= 2)
 }
 
+#[tactic(auto, unfolding(crate::specs::Bytes::site_ok))]
 fn site_ok(row: [u8; 16]) -> bool
     ensures { result ≡ site_ok row }
 {
     row[PROTECT_AT] <= 1
 }
 
+#[tactic(auto, unfolding(crate::specs::Bytes::task_ok))]
 fn task_ok(row: [u8; 16]) -> bool
     ensures { result ≡ task_ok row }
 {
@@ -292,6 +299,7 @@ fn task_ok(row: [u8; 16]) -> bool
         & (row[TASK_LATE_AT] <= 1)
 }
 
+#[tactic(auto, unfolding(crate::specs::Bytes::spot_ok))]
 fn spot_ok(row: [u8; 16]) -> bool
     ensures { result ≡ spot_ok row }
 {
@@ -304,6 +312,7 @@ fn spot_ok(row: [u8; 16]) -> bool
         & (row[OTHER_AT] <= 1)
 }
 
+#[tactic(auto, unfolding(crate::specs::Bytes::drives_ok))]
 fn drives_ok(s: &[u8]) -> bool
     requires { record_size ≤ length s.now }
     ensures { result ≡ drives_ok s.now }
@@ -314,6 +323,7 @@ fn drives_ok(s: &[u8]) -> bool
         & drive_ok(row_at(s, DRIVE3_ROW))
 }
 
+#[tactic(auto, unfolding(crate::specs::Bytes::flat_ok))]
 fn flat_ok(s: &[u8]) -> bool
     requires { record_size ≤ length s.now }
     ensures { result ≡ flat_ok s.now }
@@ -324,6 +334,7 @@ fn flat_ok(s: &[u8]) -> bool
         & spot_ok(row_at(s, SPOT_ROW))
 }
 
+#[tactic(auto, unfolding(crate::specs::Bytes::cases_ok))]
 fn cases_ok(s: &[u8]) -> bool
     requires { record_size ≤ length s.now }
     ensures { result ≡ cases_ok s.now }
@@ -335,6 +346,7 @@ fn cases_ok(s: &[u8]) -> bool
 }
 
 // Whether bytes are a record, and of this layout.
+#[tactic(auto, unfolding(crate::specs::Bytes::is_record))]
 pub fn is_record(s: &[u8]) -> bool
     ensures { result ≡ is_record s.now }
 {
@@ -346,6 +358,7 @@ pub fn is_record(s: &[u8]) -> bool
 }
 
 // The record in enough bytes; in too few, one as after power-on. Whether they are a record is not looked at again.
+#[tactic(auto, unfolding(crate::specs::Bytes::loaded_of))]
 pub fn load(s: &[u8]) -> Controller
     ensures { result ≡ loaded_of s.now }
 {
@@ -357,6 +370,7 @@ pub fn load(s: &[u8]) -> Controller
 }
 
 // The FIFO alone; in too few bytes an empty one.
+#[tactic(auto, unfolding(crate::specs::Bytes::loaded_of, crate::specs::Bytes::record_in, fdc::specs::Record::fresh_of))]
 pub fn load_fifo(s: &[u8]) -> Fifo
     ensures { result ≡ (loaded_of s.now).fifo }
 {

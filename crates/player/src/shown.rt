@@ -30,6 +30,7 @@ fn text_of(first: u8, second: u8, int: bool, drq: bool) -> [u8; 7]
 }
 
 // The value, INT and DRQ.
+#[tactic(auto, unfolding(crate::specs::Shown::answer_text))]
 pub fn answer_text(reply: Reply, int: bool, drq: bool) -> [u8; 7]
     ensures { result ≡ answer_text reply int drq }
 {

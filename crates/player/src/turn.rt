@@ -8,6 +8,7 @@ use script::line::Line;
 
 // That many ticks, each handed the record and the images that the one before left. The answer is the last one's; where
 // there is none, nothing is read and the lines are as they stand.
+#[tactic(auto, using(crate::proofs::TurnLaws::image_length, crate::proofs::TurnLaws::one_of, crate::proofs::TurnLaws::none_left))]
 pub fn ticks(controller: Controller, a: &mut [u8], b: &mut [u8], n: u32) -> Answer
     ensures answer { result ≡ (turn_ticks n a.old b.old controller).answer }
     ensures first { a.new ≡ (turn_ticks n a.old b.old controller).first }
@@ -23,6 +24,7 @@ pub fn ticks(controller: Controller, a: &mut [u8], b: &mut [u8], n: u32) -> Answ
 }
 
 // A line that says no call changes nothing.
+#[tactic(auto, unfolding(crate::specs::Turn::called_turn))]
 pub fn called(controller: Controller, line: Line, a: &mut [u8], b: &mut [u8]) -> Answer
     ensures answer { result ≡ (called_turn line a.old b.old controller).answer }
     ensures first { a.new ≡ (called_turn line a.old b.old controller).first }

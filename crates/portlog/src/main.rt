@@ -1,6 +1,8 @@
 // 01 Checked examples: a log of port calls from standard input, played on an empty box without ticks. For each call it
 // prints the line's number, the value (`--` for a write, `Rn` for refusal n), INT and DRQ. What a line says is decided
 // in `log`, what a call answers in `fdc`.
+#![tactic(auto)]
+
 use fdc::answer::{Answer, Reply, refusal_number};
 use fdc::record::Controller;
 use log_lines::gather::Gathered;
@@ -68,7 +70,7 @@ fn print_expected(line: u64, what: Expected) {
 }
 
 // The box, the line that is being read and how many were read before it.
-#[derive(Drop)]
+#[derive(Clone, Copy)]
 struct Run {
     controller: Controller,
     gathered: Gathered,
@@ -135,7 +137,7 @@ impl Run {
 }
 
 // A run after a read, and whether the input may go on.
-#[derive(Drop)]
+#[derive(Clone, Copy)]
 struct Step {
     run: Run,
     more: bool,

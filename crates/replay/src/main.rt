@@ -4,6 +4,8 @@
 // counts calls, refusals and differences. `t N` is one call here: its line is the last tick's. What the ticks stored is
 // then written back to the files, only where bytes changed, wherever the log ends. A malformed line ends the run: what
 // was played before it is kept. What a line says is decided in `script`, what a call does in `player` and `fdc`.
+#![tactic(auto)]
+
 mod drives;
 mod run;
 

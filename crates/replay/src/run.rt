@@ -69,7 +69,7 @@ fn print_counts(tally: Tally) {
 }
 
 // What was counted, the line that is being read and how many were read before it; whether the run goes on.
-#[derive(Drop)]
+#[derive(Clone, Copy)]
 pub struct Reader {
     pub tally: Tally,
     pub gathered: Gathered,
@@ -122,7 +122,7 @@ impl Reader {
 
 // The input as far as it was read: the bytes of a buffer from `at` up to `count` are still to be taken. `whole`: a
 // line's end was met.
-#[derive(Drop)]
+#[derive(Clone, Copy)]
 struct Input {
     reader: Reader,
     at: usize,
@@ -212,7 +212,7 @@ fn read_line(input: Input, buf: &mut [u8]) -> Input {
 }
 
 // The box with what was counted.
-#[derive(Drop)]
+#[derive(Clone, Copy)]
 struct Run {
     controller: Controller,
     reader: Reader,
@@ -244,7 +244,7 @@ fn said(controller: Controller, gathered: Reader, a: &mut [u8], b: &mut [u8]) ->
 }
 
 // The box, and the input that is still to come.
-#[derive(Drop)]
+#[derive(Clone, Copy)]
 struct Step {
     controller: Controller,
     input: Input,

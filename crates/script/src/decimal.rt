@@ -5,13 +5,14 @@ ghost use Rattle.script.specs.Decimal.{digit_after, byte_after, count_from, deci
 use log_lines::hex::Number;
 use log_lines::words::Word;
 
-#[derive(Drop)]
+#[derive(Clone, Copy)]
 pub enum Decimal {
     Value(u32),
     None,
 }
 
 // A digit more.
+#[tactic(auto, unfolding(crate::specs::Decimal::digit_after))]
 fn digit_after(value: u32, byte: u8) -> Decimal
     ensures { result ≡ digit_after value byte }
 {
@@ -27,6 +28,7 @@ fn digit_after(value: u32, byte: u8) -> Decimal
     Decimal::Value(value * 10 + (byte - b'0') as u32)
 }
 
+#[tactic(auto, unfolding(crate::specs::Decimal::byte_after))]
 fn byte_after(decimal: Decimal, byte: u8) -> Decimal
     ensures { result ≡ byte_after decimal byte }
 {
@@ -37,6 +39,7 @@ fn byte_after(decimal: Decimal, byte: u8) -> Decimal
 }
 
 // The number that digits say. No digits say 0.
+#[tactic(auto, unfolding(crate::specs::Decimal::count_from))]
 fn count_of(t: &[u8]) -> Decimal
     ensures { result ≡ count_from (Decimal.Value 0) t.now }
 {
@@ -49,6 +52,7 @@ fn count_of(t: &[u8]) -> Decimal
     decimal
 }
 
+#[tactic(auto, unfolding(crate::specs::Decimal::decimal_in))]
 pub fn decimal_in(s: &[u8], word: Word) -> Decimal
     ensures { result ≡ decimal_in s.now word }
 {
@@ -62,6 +66,7 @@ pub fn decimal_in(s: &[u8], word: Word) -> Decimal
     Decimal::None
 }
 
+#[tactic(auto, unfolding(crate::specs::Decimal::head_by))]
 fn head_by(decimal: Decimal) -> Number
     ensures { result ≡ head_by decimal }
 {

@@ -31,7 +31,7 @@ use log_lines::hex::{Number, number_in};
 use log_lines::line::text_length;
 use log_lines::words::{Word, byte_at, letter_in, word_from};
 
-#[derive(Drop)]
+#[derive(Clone, Copy)]
 pub enum Expected {
     Call,
     Head,
@@ -47,7 +47,7 @@ pub enum Expected {
     Shorter,
 }
 
-#[derive(Drop)]
+#[derive(Clone, Copy)]
 pub enum Line {
     // A blank line, or a comment.
     Nothing,
@@ -75,6 +75,7 @@ fn pair_of(first: u8, second: u8) -> u16
 }
 
 // The two bytes of a word of two; of any other word 0.
+#[tactic(auto, unfolding(crate::specs::Line::pair_in))]
 fn pair_in(t: &[u8], word: Word) -> u16
     ensures { result ≡ pair_in t.now word }
 {
@@ -87,6 +88,7 @@ fn pair_in(t: &[u8], word: Word) -> u16
 }
 
 // That line, where no word follows.
+#[tactic(auto, unfolding(crate::specs::Line::script_ended))]
 fn ended(t: &[u8], at: usize, line: Line) -> Line
     ensures { result ≡ script_ended t.now at line }
 {
@@ -98,6 +100,7 @@ fn ended(t: &[u8], at: usize, line: Line) -> Line
 }
 
 // What follows `->`.
+#[tactic(auto, unfolding(crate::specs::Line::recorded_from))]
 fn recorded_from(t: &[u8], at: usize, offset: u8) -> Line
     ensures { result ≡ recorded_from t.now at offset }
 {
@@ -110,6 +113,7 @@ fn recorded_from(t: &[u8], at: usize, offset: u8) -> Line
 }
 
 // What follows the offset of a read.
+#[tactic(auto, unfolding(crate::specs::Line::arrow_from))]
 fn arrow_from(t: &[u8], at: usize, offset: u8) -> Line
     ensures { result ≡ arrow_from t.now at offset }
 {
@@ -122,6 +126,7 @@ fn arrow_from(t: &[u8], at: usize, offset: u8) -> Line
 }
 
 // What follows `r`.
+#[tactic(auto, unfolding(crate::specs::Line::script_read))]
 fn read_from(t: &[u8], at: usize) -> Line
     ensures { result ≡ script_read t.now at }
 {
@@ -134,6 +139,7 @@ fn read_from(t: &[u8], at: usize) -> Line
 }
 
 // What follows the offset of a write.
+#[tactic(auto, unfolding(crate::specs::Line::script_byte))]
 fn byte_from(t: &[u8], at: usize, offset: u8) -> Line
     ensures { result ≡ script_byte t.now at offset }
 {
@@ -146,6 +152,7 @@ fn byte_from(t: &[u8], at: usize, offset: u8) -> Line
 }
 
 // What follows `w`.
+#[tactic(auto, unfolding(crate::specs::Line::script_write))]
 fn write_from(t: &[u8], at: usize) -> Line
     ensures { result ≡ script_write t.now at }
 {
@@ -157,6 +164,7 @@ fn write_from(t: &[u8], at: usize) -> Line
     }
 }
 
+#[tactic(auto, unfolding(crate::specs::Line::take_at_of))]
 fn take_at(t: &[u8], at: usize, tc: u8) -> Line
     ensures { result ≡ take_at_of t.now at tc }
 {
@@ -168,6 +176,7 @@ fn take_at(t: &[u8], at: usize, tc: u8) -> Line
 }
 
 // What follows `dr`.
+#[tactic(auto, unfolding(crate::specs::Line::take_from))]
 fn take_from(t: &[u8], at: usize) -> Line
     ensures { result ≡ take_from t.now at }
 {
@@ -179,6 +188,7 @@ fn take_from(t: &[u8], at: usize) -> Line
     }
 }
 
+#[tactic(auto, unfolding(crate::specs::Line::give_at))]
 fn give_at(t: &[u8], at: usize, byte: u8, tc: u8) -> Line
     ensures { result ≡ give_at t.now at byte tc }
 {
@@ -190,6 +200,7 @@ fn give_at(t: &[u8], at: usize, byte: u8, tc: u8) -> Line
 }
 
 // What follows the byte of a DMA write.
+#[tactic(auto, unfolding(crate::specs::Line::tc_from))]
 fn tc_from(t: &[u8], at: usize, byte: u8) -> Line
     ensures { result ≡ tc_from t.now at byte }
 {
@@ -202,6 +213,7 @@ fn tc_from(t: &[u8], at: usize, byte: u8) -> Line
 }
 
 // What follows `dw`.
+#[tactic(auto, unfolding(crate::specs::Line::give_from))]
 fn give_from(t: &[u8], at: usize) -> Line
     ensures { result ≡ give_from t.now at }
 {
@@ -214,6 +226,7 @@ fn give_from(t: &[u8], at: usize) -> Line
 }
 
 // What follows `c`.
+#[tactic(auto, unfolding(crate::specs::Line::change_from))]
 fn change_from(t: &[u8], at: usize) -> Line
     ensures { result ≡ change_from t.now at }
 {
@@ -226,6 +239,7 @@ fn change_from(t: &[u8], at: usize) -> Line
 }
 
 // What follows `t`.
+#[tactic(auto, unfolding(crate::specs::Line::ticks_from))]
 fn ticks_from(t: &[u8], at: usize) -> Line
     ensures { result ≡ ticks_from t.now at }
 {
@@ -238,6 +252,7 @@ fn ticks_from(t: &[u8], at: usize) -> Line
 }
 
 // What follows the first head.
+#[tactic(auto, unfolding(crate::specs::Line::head_from))]
 fn head_from(t: &[u8], at: usize, head0: u8) -> Line
     ensures { result ≡ head_from t.now at head0 }
 {
@@ -250,6 +265,7 @@ fn head_from(t: &[u8], at: usize, head0: u8) -> Line
 }
 
 // What follows `p`.
+#[tactic(auto, unfolding(crate::specs::Line::power_from))]
 fn power_from(t: &[u8], at: usize) -> Line
     ensures { result ≡ power_from t.now at }
 {
@@ -262,6 +278,7 @@ fn power_from(t: &[u8], at: usize) -> Line
 }
 
 // A call whose word is one letter.
+#[tactic(auto, unfolding(crate::specs::Line::letter_call))]
 fn letter_call(t: &[u8], at: usize, letter: u8) -> Line
     ensures { result ≡ letter_call t.now at letter }
 {
@@ -288,6 +305,7 @@ fn letter_call(t: &[u8], at: usize, letter: u8) -> Line
     Line::Malformed(Expected::Call)
 }
 
+#[tactic(auto, unfolding(crate::specs::Line::script_call))]
 fn call_in(t: &[u8]) -> Line
     ensures { result ≡ script_call t.now }
 {
@@ -309,6 +327,7 @@ fn call_in(t: &[u8]) -> Line
 }
 
 // A line, without its line end.
+#[tactic(auto, unfolding(crate::specs::Line::script_line))]
 pub fn line_of(s: &[u8]) -> Line
     ensures { result ≡ script_line s.now }
 {
@@ -317,6 +336,7 @@ pub fn line_of(s: &[u8]) -> Line
 }
 
 // The line that the first bytes of a text are.
+#[tactic(auto, unfolding(crate::specs::Line::script_within))]
 fn line_within(text: &[u8; 256], n: usize) -> Line
     ensures { result ≡ script_within text.now n }
 {

@@ -3,7 +3,7 @@
 ghost use Rattle.std.specs.Prelude.{◌≡◌};
 ghost use Rattle.script.specs.Tally.{one_more, more_if, no_tally, tallied_of, compared_of};
 
-#[derive(Drop)]
+#[derive(Clone, Copy)]
 pub struct Tally {
     pub calls: u64,
     pub refusals: u64,
@@ -12,6 +12,7 @@ pub struct Tally {
     pub recorded: bool,
 }
 
+#[tactic(auto, unfolding(crate::specs::Tally::one_more))]
 fn one_more(n: u64) -> u64
     ensures { result ≡ one_more n }
 {
@@ -21,6 +22,7 @@ fn one_more(n: u64) -> u64
     n
 }
 
+#[tactic(auto, unfolding(crate::specs::Tally::more_if))]
 fn more_if(on: bool, n: u64) -> u64
     ensures { result ≡ more_if on n }
 {
@@ -43,6 +45,7 @@ impl Tally {
     }
 
     // A call more.
+    #[tactic(auto, unfolding(crate::specs::Tally::tallied_of))]
     pub fn called(self, refused: bool) -> Tally
         ensures { result ≡ tallied_of refused self }
     {
@@ -55,6 +58,7 @@ impl Tally {
     }
 
     // A recorded value more.
+    #[tactic(auto, unfolding(crate::specs::Tally::compared_of))]
     pub fn compared(self, differs: bool) -> Tally
         ensures { result ≡ compared_of differs self }
     {

@@ -21,6 +21,7 @@ fn late_bit(late: bool) -> u8
     if late { 0x10 } else { 0x00 }
 }
 
+#[tactic(auto, unfolding(crate::specs::Result::move_end))]
 pub fn move_end(
     normal: bool,
     st1: u8,
@@ -40,6 +41,7 @@ pub fn move_end(
 }
 
 // The sector in hand stays the result's address.
+#[tactic(auto, unfolding(crate::specs::Result::move_fails))]
 pub fn move_fails(st1: u8, st2: u8, site: Site, task: Task) -> Step
     requires st1_bound { st1 ≤ 0xEF }
     requires st2_bound { st2 ≤ 0x3F }
@@ -63,6 +65,7 @@ pub fn tardy(task: Task) -> Task
     }
 }
 
+#[tactic(auto, unfolding(crate::specs::Result::late_end))]
 pub fn late_end(effect: Effect, site: Site, task: Task) -> Step
     ensures { result ≡ late_end effect site task }
 {

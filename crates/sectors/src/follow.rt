@@ -47,6 +47,7 @@ fn on_side(side: u8, site: Site) -> Site
     }
 }
 
+#[tactic(auto, unfolding(crate::specs::Follow::followed_of))]
 fn followed(next: Next, slot: u8, site: Site, task: Task, fifo: Fifo, effect: Effect) -> Step
     ensures { result ≡ followed_of next slot site task fifo effect }
 {
@@ -71,6 +72,7 @@ fn step_of(task: Task) -> u8
     1
 }
 
+#[tactic(auto, unfolding(crate::specs::Follow::follow_of))]
 pub fn follow(slot: u8, tc: bool, site: Site, task: Task, fifo: Fifo, effect: Effect) -> Step
     ensures { result ≡ follow_of slot tc site task fifo effect }
 {
@@ -82,6 +84,7 @@ pub fn follow(slot: u8, tc: bool, site: Site, task: Task, fifo: Fifo, effect: Ef
 }
 
 // The tick after an MT turn: the side's tests, and the request is left as it is.
+#[tactic(auto, unfolding(crate::specs::Follow::turn_of))]
 pub fn turn(slot: u8, site: Site, task: Task, head: u8, fifo: Fifo) -> Step
     ensures { result ≡ turn_of slot site task head fifo }
 {

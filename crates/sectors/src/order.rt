@@ -2,14 +2,14 @@
 use image::slot::Id;
 
 // What is done with each sector's bytes.
-#[derive(Drop)]
+#[derive(Clone, Copy)]
 pub enum Pass {
     Read,
     Write,
 }
 
 // Read Data, Read Deleted, Write Data, Write Deleted. dtl: DTL where N is 0; no header has that N, so it is 0 (D-127).
-#[derive(Drop)]
+#[derive(Clone, Copy)]
 pub struct Transfer {
     pub pass: Pass,
     pub deleted: bool,
@@ -20,21 +20,21 @@ pub struct Transfer {
 }
 
 // Format.
-#[derive(Drop)]
+#[derive(Clone, Copy)]
 pub struct Plan {
     pub n: u8,
     pub sc: u8,
     pub fill: u8,
 }
 
-#[derive(Drop)]
+#[derive(Clone, Copy)]
 pub enum Job {
     Identify,
     Move(Transfer, Id),
     Format(Plan),
 }
 
-#[derive(Drop)]
+#[derive(Clone, Copy)]
 pub struct Order {
     pub drive: u8,
     pub side: u8,

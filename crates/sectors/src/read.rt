@@ -18,6 +18,7 @@ fn last_byte(site: Site, task: Task, done: u16) -> bool
     pass_bytes(site, task) <= done as usize + 1
 }
 
+#[tactic(auto, unfolding(crate::specs::Read::read_on))]
 fn read_on(sector: Sector, done: u16, site: Site, task: Task, fifo: Fifo) -> Step
     ensures { result ≡ read_on sector done site task fifo }
 {
@@ -40,12 +41,14 @@ fn read_on(sector: Sector, done: u16, site: Site, task: Task, fifo: Fifo) -> Ste
 }
 
 // The FIFO is full and a byte is due: it is lost, and the sector runs on as after TC (000 4.2.5).
+#[tactic(auto, unfolding(crate::specs::Read::overrun))]
 fn run_over(sector: Sector, done: u16, site: Site, task: Task) -> Step
     ensures { result ≡ overrun sector done site task }
 {
     read_on(sector, done, site, tardy(task), Fifo::shut())
 }
 
+#[tactic(auto, using(crate::proofs::CondLaws::yes, crate::proofs::CondLaws::no), unfolding(crate::specs::Read::read_of))]
 pub fn read(
     sector: Sector,
     done: u16,
@@ -71,6 +74,7 @@ pub fn read(
     read_on(sector, done, site, task, f)
 }
 
+#[tactic(auto, using(crate::proofs::CondLaws::yes, crate::proofs::CondLaws::no), unfolding(crate::specs::Read::drained_of))]
 fn drained(sector: Sector, site: Site, task: Task, fifo: Fifo) -> Step
     ensures { result ≡ drained_of sector site task fifo }
 {
@@ -87,6 +91,7 @@ fn drained(sector: Sector, site: Site, task: Task, fifo: Fifo) -> Step
     follow(sector.slot, fifo.tc, site, task, fifo, Effect::Nothing)
 }
 
+#[tactic(auto, unfolding(crate::specs::Read::drain_of))]
 pub fn drain(sector: Sector, looks: u8, site: Site, task: Task, fifo: Fifo) -> Step
     ensures { result ≡ drain_of sector looks site task fifo }
 {

@@ -22,6 +22,7 @@ fn st0(normal: bool, drive: u8, side: u8) -> u8
 }
 
 // Every end empties the FIFO.
+#[tactic(auto, unfolding(crate::specs::Result::end_of))]
 pub fn end(normal: bool, drive: u8, side: u8, st1: u8, st2: u8, id: Id, effect: Effect) -> Step
     ensures { result ≡ end_of normal drive side st1 st2 id effect }
 {

@@ -62,6 +62,7 @@ fn cylinder_bits(wrong: bool, bad: bool) -> u8
     bit(wrong, 0x10) + bit(bad, 0x02)
 }
 
+#[tactic(auto, unfolding(crate::specs::Search::not_found))]
 fn not_found(look: Search, site: Site, task: Task) -> Step
     ensures { result ≡ not_found look site task }
 {
@@ -99,6 +100,7 @@ fn one_on(look: Search, slots: u8) -> Search
     }
 }
 
+#[tactic(auto, unfolding(crate::specs::Search::missed_of))]
 fn missed(look: Search, site: Site, task: Task, fifo: Fifo) -> Step
     ensures { result ≡ missed_of look site task fifo }
 {
@@ -129,6 +131,7 @@ fn with_other(other: bool, task: Task) -> Task
     }
 }
 
+#[tactic(auto, unfolding(crate::specs::Search::read_found))]
 fn read_found(other: bool, broken: bool, slot: u8, site: Site, task: Task, fifo: Fifo) -> Step
     ensures { result ≡ read_found other broken slot site task fifo }
 {
@@ -145,6 +148,7 @@ fn read_found(other: bool, broken: bool, slot: u8, site: Site, task: Task, fifo:
     moves(Stage::Reading(sector, 0), site, met, fifo, Effect::Nothing)
 }
 
+#[tactic(auto, unfolding(crate::specs::Search::data_found))]
 fn data_found(
     pass: Pass,
     deleted: bool,
@@ -165,6 +169,7 @@ fn data_found(
     }
 }
 
+#[tactic(auto, unfolding(crate::specs::Search::bare_found))]
 fn bare_found(pass: Pass, slot: u8, site: Site, task: Task, fifo: Fifo) -> Step
     ensures { result ≡ bare_found pass slot site task fifo }
 {
@@ -174,6 +179,7 @@ fn bare_found(pass: Pass, slot: u8, site: Site, task: Task, fifo: Fifo) -> Step
     }
 }
 
+#[tactic(auto, unfolding(crate::specs::Search::looked_of))]
 fn looked(mark: Mark, id: Id, look: Search, site: Site, task: Task, fifo: Fifo) -> Step
     ensures { result ≡ looked_of mark id look site task fifo }
 {
@@ -199,6 +205,7 @@ fn looked(mark: Mark, id: Id, look: Search, site: Site, task: Task, fifo: Fifo) 
     }
 }
 
+#[tactic(auto, unfolding(crate::specs::Search::search_of))]
 pub fn search(look: Search, site: Site, task: Task, head: u8, s: &[u8], fifo: Fifo) -> Step
     ensures { result ≡ search_of look site task head s.now fifo }
 {

@@ -16,6 +16,7 @@ use image::disk::Disk;
 use image::layout::{Geometry, size_of};
 use image::slot::{Slot, slot_in};
 
+#[tactic(auto, unfolding(crate::specs::Track::has_track))]
 pub fn has_track(g: Geometry, head: u8, side: u8) -> bool
     ensures { result ≡ has_track g head side }
 {
@@ -23,6 +24,7 @@ pub fn has_track(g: Geometry, head: u8, side: u8) -> bool
 }
 
 // Whether the disk is the one met in the first tick.
+#[tactic(auto, unfolding(crate::specs::Track::stays_of))]
 pub fn stays(disk: Disk, met: Geometry) -> bool
     ensures { result ≡ stays_of disk met }
 {
@@ -32,6 +34,7 @@ pub fn stays(disk: Disk, met: Geometry) -> bool
     }
 }
 
+#[tactic(auto, unfolding(crate::specs::Track::mark_place))]
 pub fn mark_place(site: Site, head: u8, slot: u8) -> usize
     ensures value { result ≡ mark_place site head slot }
     ensures upper_bound { result ≤ 17129734408 }
@@ -40,12 +43,14 @@ pub fn mark_place(site: Site, head: u8, slot: u8) -> usize
     disk.offset(head, site.side, slot)
 }
 
+#[tactic(auto, unfolding(crate::specs::Track::data_place))]
 pub fn data_place(site: Site, head: u8, slot: u8, done: u16) -> usize
     ensures { result ≡ data_place site head slot done }
 {
     mark_place(site, head, slot) + 5 + done as usize
 }
 
+#[tactic(auto, unfolding(crate::specs::Track::mark_place))]
 pub fn slot_of(s: &[u8], site: Site, head: u8, slot: u8) -> Slot
     ensures { result ≡ slot_of s.now site head slot }
 {

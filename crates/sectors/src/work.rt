@@ -6,7 +6,7 @@ use image::lent::Effect;
 use image::slot::Id;
 
 // Where it works: the side in use, and the header met in the first tick, since a changed one ends the command.
-#[derive(Drop)]
+#[derive(Clone, Copy)]
 pub struct Site {
     pub drive: u8,
     pub side: u8,
@@ -15,7 +15,7 @@ pub struct Site {
 
 // A transfer with the sector in hand. other: a mark of the other kind was met, so ST2 has its 40 from then on. late: a
 // byte came late, so ST1 has its 10 from then on and the command ends with this sector (02 2026-02).
-#[derive(Drop)]
+#[derive(Clone, Copy)]
 pub struct Task {
     pub transfer: Transfer,
     pub id: Id,
@@ -24,7 +24,7 @@ pub struct Task {
 }
 
 // One search: the slot to look at, the passes counted, whether an ID was met, and one with another C below FF, or FF.
-#[derive(Drop)]
+#[derive(Clone, Copy)]
 pub struct Search {
     pub slot: u8,
     pub passes: u8,
@@ -34,7 +34,7 @@ pub struct Search {
 }
 
 // A sector that is read, with what its mark said at the match.
-#[derive(Drop)]
+#[derive(Clone, Copy)]
 pub struct Sector {
     pub slot: u8,
     pub broken: bool,
@@ -42,7 +42,7 @@ pub struct Sector {
 }
 
 // The stages of a transfer. Bytes are counted from 0, and so are waits.
-#[derive(Drop)]
+#[derive(Clone, Copy)]
 pub enum Stage {
     Searching(Search),
     // The tick after an MT turn; the slot at which the search goes on.
@@ -57,7 +57,7 @@ pub enum Stage {
 }
 
 // The stages of a Format, each with its slot.
-#[derive(Drop)]
+#[derive(Clone, Copy)]
 pub enum Form {
     Awaiting(u8, u8),
     Addressing(u8, u8),
@@ -66,7 +66,7 @@ pub enum Form {
     Clearing(u8),
 }
 
-#[derive(Drop)]
+#[derive(Clone, Copy)]
 pub enum Work {
     // A slot, and the passes counted.
     Identifying(Site, u8, u8),
@@ -75,7 +75,7 @@ pub enum Work {
 }
 
 // What a command ends with.
-#[derive(Drop)]
+#[derive(Clone, Copy)]
 pub struct Verdict {
     pub st0: u8,
     pub st1: u8,
@@ -83,14 +83,14 @@ pub struct Verdict {
     pub id: Id,
 }
 
-#[derive(Drop)]
+#[derive(Clone, Copy)]
 pub enum Then {
     Ends(Verdict),
     Works(Work),
 }
 
 // What a tick gives: at most one store (01 Calls).
-#[derive(Drop)]
+#[derive(Clone, Copy)]
 pub struct Step {
     pub then: Then,
     pub fifo: Fifo,

@@ -27,6 +27,7 @@ fn written_mark(broken: bool, task: Task) -> u8
 }
 
 // The broken mark goes in before the first byte, so that a cut leaves the sector broken.
+#[tactic(auto, unfolding(crate::specs::Write::await_of))]
 pub fn await_byte(slot: u8, wait: u8, site: Site, task: Task, head: u8, fifo: Fifo) -> Step
     ensures { result ≡ await_of slot wait site task head fifo }
 {
@@ -54,6 +55,7 @@ pub fn await_byte(slot: u8, wait: u8, site: Site, task: Task, head: u8, fifo: Fi
     )
 }
 
+#[tactic(auto, unfolding(crate::specs::Write::put_of))]
 fn put(byte: u8, slot: u8, done: u16, site: Site, task: Task, head: u8, fifo: Fifo) -> Step
     requires { done < 1024 }
     ensures { result ≡ put_of byte slot done site task head fifo }
@@ -69,6 +71,7 @@ fn put(byte: u8, slot: u8, done: u16, site: Site, task: Task, head: u8, fifo: Fi
 }
 
 // A byte is due and the FIFO has none: zeros from here on, as after TC (000 4.2.5).
+#[tactic(auto, unfolding(crate::specs::Write::underrun))]
 fn run_under(slot: u8, done: u16, site: Site, task: Task, head: u8) -> Step
     requires { done < 1024 }
     ensures { result ≡ underrun slot done site task head }
@@ -77,6 +80,7 @@ fn run_under(slot: u8, done: u16, site: Site, task: Task, head: u8) -> Step
 }
 
 // No byte is there: zeros after TC.
+#[tactic(auto, using(crate::proofs::CondLaws::yes, crate::proofs::CondLaws::no), unfolding(crate::specs::Write::dry_of))]
 fn dry(slot: u8, done: u16, site: Site, task: Task, head: u8, fifo: Fifo) -> Step
     requires { done < 1024 }
     ensures { result ≡ dry_of slot done site task head fifo }
@@ -87,6 +91,7 @@ fn dry(slot: u8, done: u16, site: Site, task: Task, head: u8, fifo: Fifo) -> Ste
     run_under(slot, done, site, task, head)
 }
 
+#[tactic(auto, using(crate::proofs::CondLaws::yes, crate::proofs::CondLaws::no), unfolding(crate::specs::Write::written_of))]
 fn written(slot: u8, site: Site, task: Task, head: u8, fifo: Fifo) -> Step
     ensures { result ≡ written_of slot site task head fifo }
 {
@@ -99,6 +104,7 @@ fn written(slot: u8, site: Site, task: Task, head: u8, fifo: Fifo) -> Step
     follow(slot, tc, site, task, fifo, Effect::Store { at, byte })
 }
 
+#[tactic(auto, unfolding(crate::specs::Write::store_of))]
 pub fn store(
     slot: u8,
     done: u16,
