@@ -19,7 +19,7 @@ import sys
 CRATE, CRATE_NOW = "log", "log_lines"
 TOKEN = re.compile(r"(?<![\w'′])[^\W\d][\w'′]*(?:-[\w'′]+)*")
 LOWER_NEEDS = re.compile(r"-|′|[a-z0-9][A-Z]")
-PATH = re.compile(r"(?<![\w'′])(?:Rattle|[a-z]\w*)(?:\.[\w'-]+)+(?=\.\{|\s+as\b|\s*$)")
+PATH = re.compile(r"(?<![\w'′.])(?:Rattle|mathlib|native|lib|borrow|Prim)(?:\.[\w'-]+)+(?=\.\{|\s+as\b|\s*$)")
 TOP = re.compile(r"^(?:abbrev |unfoldable |pub )*([^\W\d][\w'′]*(?:-[\w'′]+)*)\s*:(?!:)")
 INNER = re.compile(r"^\s+(?:abbrev |unfoldable |pub )*([^\W\d][\w'′]*(?:-[\w'′]+)*)\s*:(?!:)")
 IMPORT = re.compile(r"^\s*(?:pub )?use ([\w.'-]+?)\.\{([^}]*)\}", re.M)

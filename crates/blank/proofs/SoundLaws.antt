@@ -89,7 +89,7 @@ module _ (g : Geometry) (fill : ℕ) where
       let on = row_inside k g.slots (slot_length g) h.on_track in
       let e : track_at g cylinder side + 5 + k * slot_length g + m
       ≡ track_at g cylinder side + (5 + (k * slot_length g + m)) = omega arith in
-      rw e (track_byte cylinder side (5 + (k * slot_length g + m)) h.on_disk h.on-cylinder
+      rw e (track_byte cylinder side (5 + (k * slot_length g + m)) h.on_disk h.on_cylinder
       (omega (arith, track_is g))
       ∙ slots_byte cylinder side (k * slot_length g + m)
       ∙ turn_at (slot_of g fill cylinder side) (slot_length g) (slot_length_lem g fill cylinder side) g.slots k m

@@ -60,13 +60,13 @@ module _ (drive : ℕ) (low : drive < 4) (c : Controller) (stands : Stands drive
       ∙ stands.reports j (omega arith))
 
   sensed_st0 : (sense_of e).st0 ≡ st0
-  sensed_st0 = senses.0 ∙ m.drive.report-is
+  sensed_st0 = senses.0 ∙ m.drive.report_is
 
   abbrev then : Controller
   then = (sense_of e).controller
 
   its_drive : drive_at drive then.drives ≡ sensed_drive (drive_at drive e.drives)
-  its_drive = same_drive e m.rested drive low then senses.1.drives-are
+  its_drive = same_drive e m.rested drive low then senses.1.drives_are
 
   other_drives : (j : ℕ) → j < 4 → (j ≡ drive → ⊥) → drive_at j then.drives ≡ drive_at j c.drives
   other_drives j h n = other_drive e m.rested drive low then senses.1.drives_are j n ∙ m.others j h n
@@ -99,7 +99,7 @@ module _ (drive : ℕ) (low : drive < 4) (c : Controller) (stands : Stands drive
   sensed_head = ap (λ (d : Drive). d.head) its_drive ∙ m.drive.head
 
   sensed_pcn : (drive_at drive then.drives).pcn ≡ pcn
-  sensed_pcn = ap (λ (d : Drive). d.pcn) its_drive ∙ m.drive.pcn-is
+  sensed_pcn = ap (λ (d : Drive). d.pcn) its_drive ∙ m.drive.pcn_is
 
 taken_came : (w : Came) → w.came ≡ true
     → report_taken w

@@ -80,7 +80,7 @@ module _ (s : Box) (drive cylinder : ℕ) (v : valid_of s.controller ≡ true)
 
   -- and all behind it
   goes_on_lem : Led (with_record begun s) (position_of drive cylinder waiting).box
-  goes_on_lem = led_join (does_led (with_record begun s) readied.does) on-cylinder.led
+  goes_on_lem = led_join (does_led (with_record begun s) readied.does) on_cylinder.led
 
   prepared_is : prepared_of drive cylinder s
       ≡ came_with (position_of drive cylinder waiting).came (position_of drive cylinder waiting).box

@@ -93,7 +93,7 @@ module _ (drive block : ℕ) (s : Box) (g : Geometry) (out : List ℕ) (asked : 
           → Of drive c.phase
       go (is_over n x y) = absurd (false≢true (sym n ∙ w))
       go (to_start e u z) = rw e refl
-      go (at_it site task stage e u x) = rw e x.drive-is
+      go (at_it site task stage e u x) = rw e x.drive_is
 
   pub keeps : (c : Controller) (t : Taken) → Ready c t → at_work c.phase ≡ true
       → (image_after 0 a b c a ≡ a) × (image_after 1 a b c b ≡ b)
@@ -101,7 +101,7 @@ module _ (drive block : ℕ) (s : Box) (g : Geometry) (out : List ℕ) (asked : 
       of_two
       (λ k. drive ≡ k → image_after k a b c (pick_of k a b) ≡ pick_of k a b
       → (image_after 0 a b c a ≡ a) × (image_after 1 a b c b ≡ b))
-      drive asked.drive-is
+      drive asked.drive_is
       (λ e own. (own, other_tick drive 1 (λ x. omega arith) a b c b r.quiet (of_drive c t r w)))
       (λ e own. (other_tick drive 0 (λ x. omega arith) a b c a r.quiet (of_drive c t r w), own))
       refl
@@ -138,12 +138,12 @@ module _ (drive block : ℕ) (s : Box) (g : Geometry) (out : List ℕ) (asked : 
       (ap (λ (f : Fifo). f.asks)
       (start_empty begins.phase _ begins.fifo order begun.starts begun.lit.quiet.good.phase))
 
-  pub leads : run_calls loop.calls begins ≡ served-by.box.controller
+  pub leads : run_calls loop.calls begins ≡ served_by.box.controller
   leads =
       course_runs drive (budget_of g) (with_record begins p) served_by.came served_by.box loop.calls
       loop.course
 
-  pub ended : InBudget served_by.came served-by.box
+  pub ended : InBudget served_by.came served_by.box
   ended =
       in_budget Read drive g place asked.drive_is (with_record begins p) begun.lit.quiet begun.starts disk
       served_by.came served_by.box loop.calls loop.course
@@ -151,7 +151,7 @@ module _ (drive block : ℕ) (s : Box) (g : Geometry) (out : List ℕ) (asked : 
   pub read_ends : read_block drive block s out
       ≡ read_with (Ended (ending_of (status_from 7 0 (replicate 7 0) served_by.box.controller).bytes))
       (with_record (status_from 7 0 (replicate 7 0) served_by.box.controller).controller served_by.box)
-      served-by.out
+      served_by.out
   unfolding read_on
   read_ends =
       read_goes drive block s g out asked

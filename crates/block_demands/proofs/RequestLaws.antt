@@ -79,7 +79,7 @@ module _ (drive block : ℕ) (s : Box) (g : Geometry) (slice : List ℕ) (asked 
   pub ready_there : ((prepared_of drive place.cylinder s).came ≡ true)
       × Placed drive place.cylinder s (prepared_of drive place.cylinder s).box
   ready_there =
-      prepared s drive place.cylinder asked.any.valid asked.any.spec1 asked.drive-is
+      prepared s drive place.cylinder asked.any.valid asked.any.spec1 asked.drive_is
       (omega (arith, there.cylinder, range.cylinders.1))
 
   abbrev pub waiting : Box

@@ -95,12 +95,12 @@ module _ (drive block : ℕ) (s : Box) (g : Geometry) (bytes : List ℕ) (asked 
       (ap (λ (f : Fifo). f.asks)
       (start_empty begins.phase _ begins.fifo order begun.starts begun.lit.quiet.good.phase))
 
-  pub leads : run_calls loop.calls begins ≡ served-by.box.controller
+  pub leads : run_calls loop.calls begins ≡ served_by.box.controller
   leads =
       course_runs drive (budget_of g) (with_record begins p) served_by.came served_by.box loop.calls
       loop.course
 
-  pub ended : InBudget served_by.came served-by.box
+  pub ended : InBudget served_by.came served_by.box
   ended =
       in_budget Write drive g place asked.drive_is (with_record begins p) begun.lit.quiet begun.starts disk
       served_by.came served_by.box loop.calls loop.course

@@ -216,7 +216,7 @@ module _ (g : Geometry) (img : List ℕ) (head drive side t : ℕ) (kind broken 
 
   -- it is not skipped
   no_skip : (k : Bool) → k ≡ kind → (k ≡ transfer.deleted → ⊥) → transfer.sk ≡ true → ⊥
-  no_skip k e n s = go b.not-skipped
+  no_skip k e n s = go b.not_skipped
     where
       go : (kind ≡ transfer.deleted) ⊎ (transfer.sk ≡ false) → ⊥
       go (inl x) = n (e ∙ x)

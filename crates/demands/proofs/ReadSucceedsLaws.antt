@@ -479,7 +479,7 @@ module _ (g : Geometry) (cylinder : ℕ) (order : Order) (transfer : Transfer) (
   module _ (a b : List ℕ) (c : Controller) (t : Taken) (f : Follows c t)
       (motor : motor_in c.registers.dor drive ≡ true) (lent : pick_of drive a b ≡ img) (timely : Timely c) where
     heads : (drive_at (drive % 4) c.drives).head ≡ cylinder
-    heads = rw (mod-eq_of_lt {n = drive} {m = 4} low) f.head-is
+    heads = rw (mod-eq_of_lt {n = drive} {m = 4} low) f.head_is
 
     first_step : c.phase ≡ Starting order
         → ruled_of a b c

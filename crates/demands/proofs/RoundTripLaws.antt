@@ -309,7 +309,7 @@ module _ (w : Written Quiet) where
       → Stands w.g w.old (cylinder_of w) (aim_of w m) (place_of w m)
       × Finished w.g w.transfer.deleted (left_by w) (done_by w).host m (place_of w m)
   stood = sector_no w.g (cylinder_of w) w.transfer _ w.old (left_by w) (done_by w).host (done_by w).finished
-      left-of.finished
+      left_of.finished
 
   module _ (later : List ℕ) (r : ReadBack Quiet later w.g) (cylinder : cylinder_read r ≡ cylinder_of w) where
     handed : Hands (with_protect r.protect w.g) (cylinder_read r) r.transfer (first_read r) later

@@ -639,7 +639,7 @@ module _ (g : Geometry) (cylinder : ℕ) (order : Order) (transfer : Transfer) (
         head,
         gone_on site task stage img c.fifo c.registers.efifo c.registers.fifothr k.disk,
       ))
-      k.drive-is
+      k.drive_is
       (rule_goes g cylinder drive transfer aim old fits wr last there c.registers.efifo
       c.registers.fifothr k q.good.fifo plan few tells _ (rw p at timely) (rw p at on)
       (transfer_rule cylinder img c.registers.efifo c.registers.fifothr site task c.fifo stage))

@@ -80,7 +80,7 @@ module _ {From : Controller → Type 0} (w : Written From) where
   aim_of = aim_no w.transfer first_of
 
   abbrev pub place_of : ℕ → ℕ
-  place_of m = place_no m doneBy.finished
+  place_of m = place_no m done_by.finished
 
   -- success was reported
   pub record Succeeded : Type 0 where

@@ -178,21 +178,21 @@ met = record {
 ends : (bytes : List ℕ) → all_below bytes ≡ true → (job : Job) → (given bytes).phase ≡ Starting (ordered job)
     → EndsWith Anyhow (hosted 1312 small (given bytes)) (given bytes)
 ends bytes h job e =
-    ends_in_time (given bytes) (given_real bytes h) (ordered job) e small (disk 1 1 1 1) met.disk-there
+    ends_in_time (given bytes) (given_real bytes h) (ordered job) e small (disk 1 1 1 1) met.disk_there
     (hosted 1312 small (given bytes)) (hosted_alone 1312 small (given bytes))
     (omega (arith, met.bound, hosted_ticks 1312 small (given bytes)))
 
 pub read_ends : EndsWith Anyhow (hosted 1312 small (given read_bytes)) (given read_bytes)
-read_ends = ends read_bytes refl (moves Read) met.read-accepted
+read_ends = ends read_bytes refl (moves Read) met.read_accepted
 
 pub write_ends : EndsWith Anyhow (hosted 1312 small (given write_bytes)) (given write_bytes)
-write_ends = ends write_bytes refl (moves Write) met.write-accepted
+write_ends = ends write_bytes refl (moves Write) met.write_accepted
 
 pub id_ends : EndsWith Anyhow (hosted 1312 small (given id_bytes)) (given id_bytes)
-id_ends = ends id_bytes refl Identify met.id-accepted
+id_ends = ends id_bytes refl Identify met.id_accepted
 
 pub format_ends : EndsWith Anyhow (hosted 1312 small (given format_bytes)) (given format_bytes)
-format_ends = ends format_bytes refl (Format (record { n = 1; sc = 1; fill = 0xE5 })) met.format-accepted
+format_ends = ends format_bytes refl (Format (record { n = 1; sc = 1; fill = 0xE5 })) met.format_accepted
 
 -- 01 Example 9: a Read on an empty drive, and 01 Example 8: Sense Drive, each over at the next tick
 pub empty_ends : (after bare (given read_bytes)).phase ≡ Answering true
@@ -270,7 +270,7 @@ steps_met = record {
 pub seek_ends : MotionOver 1 0x20 1
     (drive_at 0 (after bare (run_calls (bares 62) (after (writes 5 1) (given seek_bytes)))).drives)
 seek_ends =
-    (seeks_on_time (given seek_bytes) 1 steps_met.seek 0 1 released steps_met.seek_drive steps-met.seek-target
+    (seeks_on_time (given seek_bytes) 1 steps_met.seek 0 1 released steps_met.seek_drive steps_met.seek_target
     steps_met.seek_free refl).last (bares 62) (bares_calm 62) (omega (arith, steps_met.seek_ticks)) [] []
 
 pub recalibrate_ends : MotionOver 0 0x20 0 (drive_at 0 (after bare (after (writes 5 0) (given recalibrate_bytes))).drives)

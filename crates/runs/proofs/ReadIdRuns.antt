@@ -116,7 +116,7 @@ read_id_runs =
     (read_id_gives (asked_by second) (real_asked second refl) second.order (accepts (double 0)) (double 0)
     (disk 1 1 2 1) mounted.0 1 first (calls_of second) (spins (double 0)) (alone (double 0)) (enough (double 0))) in
     let missed =
-    read_id_none (asked_by neither_id) (real_asked neither_id refl) neither_id.order (accepts neither_id.img) neitherId.img
+    read_id_none (asked_by neither_id) (real_asked neither_id refl) neither_id.order (accepts neither_id.img) neither_id.img
     (disk 1 1 2 1) mounted.1 none (calls_of neither_id) (spins neither_id.img) (alone neither_id.img)
     (enough neither_id.img) in
     record {

@@ -207,7 +207,7 @@ last_one = record { eot = refl; no_turn = λ e z. false≢true e }
 eot_long : LongRun long_eot
 unfolding all_open bound_of
 eot_long =
-    long_run past_eot 1721 handed-examples.past-eot-served
+    long_run past_eot 1721 handed_examples.past_eot_served
     (ap (λ (o : WholeOutcome). o.phase) handed_examples.past_eot_run.outcome) (omega arith) refl refl (omega arith)
 
 pub wrote_accepts : Writes (asked_by wrote) wrote.order (writing false false 2) sector_one
@@ -254,7 +254,7 @@ success_runs =
       read_tells = takes;
       write_success =
           write_succeeds (asked_by wrote) prompt_runs.written.real wrote.order (writing false false 2) sector_one
-          wrote_accepts (double 1) (disk 1 1 2 1) writable 260 1 fills there (calls_of long_write) long-write.spins
+          wrote_accepts (double 1) (disk 1 1 2 1) writable 260 1 fills there (calls_of long_write) long_write_here.spins
           long_write_here.alone long_write_here.served notes long_write_here.enough;
       read_success =
           read_succeeds (asked_by back) prompt_runs.read.real back.order (reading false false false 2) sector_one
@@ -267,8 +267,8 @@ success_runs =
       reaches_eot =
           let real = handed_examples.past_eot_run.real in
           read_reaches_eot (asked_by past_eot) real past_eot.order (reading false false false 1) sector_one eot_accepts
-          (double 1) (disk 1 1 2 1) prompt_runs.sound 0 eot_good last_one (calls_of long_eot) eot-long.spins
-          eot-long.alone
+          (double 1) (disk 1 1 2 1) prompt_runs.sound 0 eot_good last_one (calls_of long_eot) eot_long.spins
+          eot_long.alone
           (prompt_in_time (asked_by past_eot) real past_eot.order (reading false false false 1) sector_one
           (record { accepted = eot_accepts.accepted; moves = eot_accepts.moves }) (calls_of long_eot)
           eot_long.served)

@@ -44,10 +44,10 @@ use Rattle.runs.proofs.PromptRuns.{prompt_runs}
 use Rattle.runs.proofs.SuccessRuns.{heads, wrote_accepts, back_accepts, success_runs}
 
 abbrev saving : WriteRun wrote wrote_end
-saving = prompt-runs.written
+saving = prompt_runs.written
 
 abbrev loading : ReadRun back back_end
-loading = prompt-runs.read
+loading = prompt_runs.read
 
 abbrev writes_it : Written Real
 writes_it =
@@ -130,7 +130,7 @@ in_time_law : InTime (calls_of long_read) (asked_by back)
 in_time_law =
     prompt_in_time (asked_by back) loading.real back.order (reading false false false 2) sector_one
     (record { accepted = back_accepts.accepted; moves = back_accepts.moves }) (calls_of long_read)
-    prompt-runs.read-long.served
+    prompt_runs.read_long.served
 
 loads_it :
     Loads (Success back.order (reading false false false 2) from_one 1) (first ++ down 4) (calls_of long_read)
