@@ -71,7 +71,6 @@ pub fn kind_numbered(n: u8) -> Kind
     }
 }
 
-#[tactic(auto, using(crate::proofs::TableLaws::at), unfolding(crate::specs::Commands::kind_of))]
 fn line_at(code: u8) -> u8
     ensures { result ≡ table_line (kind_of code) }
 {

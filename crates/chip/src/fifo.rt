@@ -140,7 +140,6 @@ impl Fifo {
     }
 
     // The oldest byte goes, and the others move up.
-    #[tactic(auto, using(crate::proofs::TableLaws::listed_drop))]
     fn popped(self) -> Fifo
         ensures { result ≡ popped_of self }
     {
