@@ -4,7 +4,7 @@
 --   dr TC           dw BYTE TC   DMA cycles, TC 0 or 1
 --   c DRIVE         t COUNT   a disk-change note, and that many ticks
 -- A blank line says nothing, nor does one whose first byte past the blanks is `#`. Of a malformed line the first word
--- that is not as expected is told. Words and hexadecimal numbers are those of the crate log.
+-- that is not as expected is told. Words and hexadecimal numbers are those of the crate log_lines.
 -- Assumes nothing.
 use Rattle.std.specs.Prelude.{ℕ, ◌+◌, ◌*◌, ◌||◌, cond, List, eqb, leb, ltb, get_or, take}
 use Rattle.log_lines.specs.Hex.{hex_in}
