@@ -7,14 +7,14 @@ use mathlib.Core.Bool.{Bool, true, false, cond}
 use mathlib.Core.List.{List, [], ◌∷◌, ◌++◌}
 use mathlib.Core.Path.{◌≡◌, refl, sym, ap, ◌∙◌}
 use lib.Dec.{eqb}
-use lib.ListN.{length, get_or, take, drop, replicate, length-replicate, get_or-replicate, get_or-append}
+use lib.ListN.{length, get_or, take, drop, replicate, length-replicate, get_or-append}
 use lib.Seq.{get_or-append-add, get_or-take, get_or-drop, ext_get_or}
 use Rattle.image.specs.declared.layout.Geometry.{Geometry}
 use Rattle.image.specs.declared.slot.Id.{Id}
 use Rattle.image.specs.Layout.{size_of, slot_length, track_length, length_of, track_at, offset_of, Has}
-use Rattle.image.specs.Disk.{flag, header_of, InRange, Fits, in_range, geometry_of}
-use Rattle.image.specs.Slot.{id_at, slot_at}
-use Rattle.image.specs.Sound.{Field, Track, mark_in, NoTwins, Sound}
+use Rattle.image.specs.Disk.{flag, header_of, in_range, geometry_of}
+use Rattle.image.specs.Slot.{slot_at}
+use Rattle.image.specs.Sound.{Field, Track, NoTwins, Sound}
 use Rattle.image.proofs.LayoutLaws.{row_inside, slot_inside, length_ge}
 use Rattle.image.proofs.TestLaws.{both}
 use Rattle.blank.specs.Blank.{
@@ -27,7 +27,7 @@ use Rattle.blank.specs.Blank.{
   blank_of,
   takes,
 }
-use Rattle.blank.specs.Statements.{BlankSound, BlankSlot, BlankSlots, BlankMade}
+use Rattle.blank.specs.Statements.{BlankSound, BlankSlots, BlankMade}
 use Rattle.blank.proofs.ListLaws.{turn_at, part_length}
 use Rattle.blank.proofs.PartLaws.{
   slot_length_lem,

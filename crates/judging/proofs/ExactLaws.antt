@@ -1,7 +1,7 @@
 -- `JudgedExactly` and `FaultExactly` (02 2026-04): the judge's answer is the first fault, stage by stage. A wrong
 -- header leaves no other kind, a wrong length none but its own.
 -- Assumes nothing.
-use Prim.Native.Nat.{ℕ, ◌-◌, ◌<◌, ◌≤◌}
+use Prim.Native.Nat.{ℕ, ◌<◌, ◌≤◌}
 use native.Mathlib.Omega.{arith}
 use mathlib.Core.Bool.{Bool, true, false, cond, false≢true}
 use mathlib.Core.List.{List}
@@ -13,7 +13,6 @@ use borrow.Author.Tests.{eqb-true, eqb-false, ltb-true, ltb-false, lt-ltb, le-lt
 use Rattle.image.specs.declared.layout.Geometry.{Geometry}
 use Rattle.image.specs.Disk.{geometry_in, header_of, InRange, Fits}
 use Rattle.image.specs.Layout.{length_of}
-use Rattle.image.specs.Sound.{Track, Sound}
 use Rattle.image.proofs.DiskLaws.{header_geometry, length_le}
 use Rattle.image.proofs.LayoutLaws.{length_ge}
 use Rattle.image.proofs.TestLaws.{le_or_lt}
@@ -165,6 +164,8 @@ module _ (img : List ℕ) (s : header_fault img ≡ verdict.Sound) where
     to_body kind.End o f = rw (same_fits img f.g f.fits).0 f.there
 
     of_body : (k : Kind) (o : ℕ) → InBody own img k o → FaultAt img k o
+    of_body kind.Header o f = elim f [ ]
+    of_body kind.Length o f = elim f [ ]
     of_body kind.Track o f = record { g = own; fits = fits; there = f }
     of_body kind.Place o f = record { g = own; fits = fits; there = f }
     of_body kind.Mark o f = record { g = own; fits = fits; there = f }

@@ -121,6 +121,8 @@ module _ (g : Geometry) (img : List ℕ) where
       (1, omega arith, (refl, e, rw (← e) (ne_eqb _ _ w)))
 
   back : (r : InRange g) (k : Kind) (o : ℕ) → InBody g img k o → InTracks g img r k o ⊎ InEnd g img r k o
+  back r Header o f = elim f [ ]
+  back r Length o f = elim f [ ]
   back r Track o f =
       inl (
         f.cylinder,

@@ -19,7 +19,6 @@ use Rattle.judging.specs.declared.fault.Kind.{Kind}
 use Rattle.judging.specs.declared.fault.Kind.TheVariants as kind
 use Rattle.judging.specs.declared.fault.Verdict.{Verdict}
 use Rattle.judging.specs.declared.fault.Verdict.TheVariants as verdict
-use Rattle.judging.specs.Verdict.{fault}
 use Rattle.judging.specs.Fault.{
   field_bytes,
   TrackFault,
