@@ -7,7 +7,7 @@ use mathlib.Core.Path.{◌≡◌, refl, ap, subst}
 use Rattle.image.specs.Disk.{header_in, geometry_in, disk_in}
 use Rattle.image.specs.Layout.{size_of, track_length, length_of}
 use Rattle.fdc.specs.declared.record.Controller.{Controller}
-use Rattle.reached.specs.Runs.{Call}
+use Rattle.reached.specs.Runs.{Call, answer_to}
 use borrow.Author.Rules.{rules}
 use Rattle.image.specs.declared.disk.Disk.TheVariants.{Present}
 use Rattle.image.specs.Examples.{disk, sample}
@@ -17,6 +17,8 @@ use Rattle.runs.specs.CutExamples.{
   written,
   sector_one,
   ordered,
+  offer,
+  rest_of,
   served,
   cut_calls,
   down,
@@ -36,8 +38,8 @@ pub served_alone : (dma : Bool) (host : List ℕ) (n : ℕ) (c : Controller) (im
     → Alone 0 img (served dma host n c img) c
 unfolding Alone
 served_alone dma host zero c img = tt
-served_alone true host (suc n) c img = λ w. (tt, λ w'. (refl, served_alone true _ n _ _))
-served_alone false host (suc n) c img = λ w. (tt, λ w'. (refl, served_alone false _ n _ _))
+served_alone true host (suc n) c img = λ w. (tt, λ w'. (refl, served_alone true (rest_of (answer_to (offer true host) c).reply host) n _ _))
+served_alone false host (suc n) c img = λ w. (tt, λ w'. (refl, served_alone false (rest_of (answer_to (offer false host) c).reply host) n _ _))
 
 mounts : disk_in (sample 2) ≡ Present (disk 1 1 2 1)
 unfolding header_in geometry_in disk_in size_of track_length length_of

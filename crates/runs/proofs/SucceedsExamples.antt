@@ -38,9 +38,9 @@ use Rattle.runs.proofs.Tests.{off_at, not_off, off_at_lem}
 -- no call is a reset; there are so many ticks
 served_calm : (dma : Bool) (host : List ℕ) (n : ℕ) (c : Controller) (img : List ℕ) → AllCalm (served dma host n c img)
 served_calm dma host zero c img = tt
-served_calm true host (suc n) c img = (tt, (tt, served_calm true _ n _ _))
+served_calm true host (suc n) c img = (tt, (tt, served_calm true (rest_of (answer_to (offer true host) c).reply host) n _ _))
 served_calm false host (suc n) c img =
-    ((λ e. absurd (omega arith), λ e. absurd (omega arith)), (tt, served_calm false _ n _ _))
+    ((λ e. absurd (omega arith), λ e. absurd (omega arith)), (tt, served_calm false (rest_of (answer_to (offer false host) c).reply host) n _ _))
 
 served_ticks : (dma : Bool) (host : List ℕ) (n : ℕ) (c : Controller) (img : List ℕ)
     → tick_count (served dma host n c img) ≡ n
