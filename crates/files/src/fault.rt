@@ -18,6 +18,11 @@ pub fn program_fault(err: &impl Print, program: &[u8], what: &[u8]) {
     fault(err, b"\n");
 }
 
+// That standard output did not take all that was written there.
+pub fn output_fault(err: &impl Print, program: &[u8]) {
+    program_fault(err, program, b"standard output could not be written");
+}
+
 // What is wrong with a file, by its name.
 pub fn name_fault(err: &impl Print, program: &[u8], path: &[u8], what: &[u8]) {
     fault(err, program);
