@@ -1,64 +1,63 @@
 // An image written back to its file, only where its bytes changed.
 use crate::fault::argument_fault;
 use script::change::stretch_end;
+use std::env::Env;
+use std::io;
+use std::io::{Read, Seek, SeekFrom, Write};
 
-fn put(fd: i32, at: usize, bytes: &[u8]) -> bool {
-    if at <= 2097152 {
-        let there = libc::lseek(fd, at as i64, libc::SEEK_SET);
-        if there < 0 {
-            return false;
-        }
-        return io::write_all(fd, bytes);
-    }
-    false
+fn put(file: &mut (impl Write + Seek), at: usize, bytes: &[u8]) -> io::Result<()> {
+    file.seek(SeekFrom::Start(at as u64))?;
+    file.write_all(bytes)
 }
 
 // The bytes from start to stop of a part that stands at a place of the file.
-fn put_part(fd: i32, at: usize, new: &[u8], start: usize, stop: usize) -> bool {
+fn put_part(
+    file: &mut (impl Write + Seek),
+    at: usize,
+    new: &[u8],
+    start: usize,
+    stop: usize,
+) -> io::Result<()> {
     if start < stop {
         if stop <= new.len() {
             if at <= 2097152 {
-                return put(fd, at + start, &new[start..stop]);
+                return put(file, at + start, &new[start..stop]);
             }
         }
     }
-    true
+    Ok(())
 }
 
 // Where a part of the file and of the image differ, the image's bytes are written. Each turn passes a byte at least.
-fn keep_part(fd: i32, at: usize, old: &[u8], new: &[u8]) -> bool {
-    let mut turns = old.len();
+fn keep_part(file: &mut (impl Write + Seek), at: usize, old: &[u8], new: &[u8]) -> io::Result<()> {
     let mut i = 0;
-    while turns > 0 && i < old.len() {
+    for _ in 0..old.len() {
+        if old.len() <= i {
+            break;
+        }
         let start = stretch_end(old, new, i, true);
         let stop = stretch_end(old, new, start, false);
-        if !put_part(fd, at, new, start, stop) {
-            return false;
-        }
+        put_part(file, at, new, start, stop)?;
         i = stop;
-        turns -= 1;
     }
-    true
+    Ok(())
 }
 
-// A part of the file that stands at a place of it: how many bytes were looked at and kept, 0 where that failed.
-fn keep_some(fd: i32, at: usize, new: &[u8]) -> usize {
-    if 2097152 < at {
-        return 0;
-    }
-    let mut old = io::buffer();
-    let got = libc::pread(fd, &mut old, at as i64);
-    let n = io::count(got, &old);
-    if keep_part(fd, at, &old[..n], new) {
-        return n;
-    }
-    0
+// A part of the file that stands at a place of it: how many bytes were looked at and kept, 0 at the file's end.
+fn keep_some(file: &mut (impl Read + Write + Seek), at: usize, new: &[u8]) -> io::Result<usize> {
+    let mut old = [0u8; 4096];
+    file.seek(SeekFrom::Start(at as u64))?;
+    let n = file.read(&mut old)?;
+    keep_part(file, at, &old[..n], new)?;
+    Ok(n)
 }
 
-fn keep_all(fd: i32, image: &[u8]) -> bool {
+fn keep_all(file: &mut (impl Read + Write + Seek), image: &[u8]) -> bool {
     let mut at = 0;
     while at < image.len() {
-        let n = keep_some(fd, at, &image[at..]);
+        let Ok(n) = keep_some(file, at, &image[at..]) else {
+            return false;
+        };
         if n == 0 {
             return false;
         }
@@ -70,13 +69,19 @@ fn keep_all(fd: i32, image: &[u8]) -> bool {
     true
 }
 
-// The image that the argument names, written back where its bytes changed.
-pub fn kept(program: &[u8], k: usize, fd: i32, image: &[u8]) {
-    if fd < 0 {
+// The image that the argument names, written back where its bytes changed; its file is then closed.
+pub fn kept<F: Read + Write + Seek + Drop>(
+    rt: &impl Env,
+    err: &impl Print,
+    program: &[u8],
+    k: usize,
+    file: Option<F>,
+    image: &[u8],
+) {
+    let Some(mut file) = file else {
         return;
+    };
+    if !keep_all(&mut file, image) {
+        argument_fault(rt, err, program, k, b"could not be written back");
     }
-    if !keep_all(fd, image) {
-        argument_fault(program, k, b"could not be written back");
-    }
-    libc::close(fd);
 }

@@ -1,20 +1,41 @@
 // Bytes read to their end, into a slice that may be longer than they are.
+ghost use Rattle.std.specs.Prelude.{◌≤◌, length, IfOk};
 
-// How many bytes came, and what there was behind them: a byte more, 1; the end, 0; a read that failed, -1.
+use std::io;
+use std::io::Read;
+
+// How many bytes came, and whether there was one more behind them.
 #[derive(Clone, Copy)]
 pub struct Loaded {
     pub length: usize,
-    pub more: isize,
+    pub more: bool,
 }
 
-// One byte more of a file: -1, or how many there were.
-fn one_more(fd: i32) -> isize {
+// Bytes up to the slice's end or the input's: how many.
+fn read_full(from: &mut impl Read, bytes: &mut [u8]) -> io::Result<usize>
+    ensures { IfOk result (λ n. n ≤ length bytes.new) }
+{
+    let mut done = 0;
+    while done < bytes.len() {
+        let n = from.read(&mut bytes[done..])?;
+        if n == 0 {
+            break;
+        }
+        done += n;
+    }
+    Ok(done)
+}
+
+// Whether there is one byte more.
+fn one_more(from: &mut impl Read) -> io::Result<bool> {
     let mut one = [0u8; 1];
-    libc::read(fd, &mut one)
+    Ok(0 < from.read(&mut one)?)
 }
 
-pub fn load(fd: i32, bytes: &mut [u8]) -> Loaded {
-    let length = io::read_full(fd, bytes);
-    let more = one_more(fd);
-    Loaded { length, more }
+pub fn load(from: &mut impl Read, bytes: &mut [u8]) -> io::Result<Loaded>
+    ensures { IfOk result (λ l. l.length ≤ length bytes.new) }
+{
+    let length = read_full(from, bytes)?;
+    let more = one_more(from)?;
+    Ok(Loaded { length, more })
 }

@@ -6,35 +6,50 @@
 mod report;
 mod words;
 
-use files::fault::fault;
+use files::fault::{fault, output_fault};
 use files::image::{image_buffer, image_of};
+use files::word::argument_count;
 use report::report;
+use std::alloc::AllocError;
+use std::env::Env;
+use std::fs::Files;
+use std::io;
 
-fn judge_file(k: usize, bytes: &mut [u8]) {
-    let file = image_of(b"judge", k, false, bytes);
+fn judge_file(
+    rt: &(impl Files + Env + Print),
+    err: &impl Print,
+    k: usize,
+    bytes: &mut [u8],
+) -> io::Result<()> {
+    let file = image_of(rt, err, b"judge", k, false, bytes);
     if file.good {
-        libc::close(file.fd);
-        let n = file.length;
-        if n <= bytes.len() {
-            report(k, &bytes[0..n]);
-        }
+        report(rt, k, &bytes[..file.length])?;
     }
+    Ok(())
 }
 
-fn judge_files(count: usize, bytes: &mut [u8]) {
-    let mut k = 1;
-    while k < count {
-        judge_file(k, bytes);
-        k += 1;
+fn judge_files(
+    rt: &(impl Files + Env + Print),
+    err: &impl Print,
+    count: usize,
+    bytes: &mut [u8],
+) -> io::Result<()> {
+    for k in 1..count {
+        judge_file(rt, err, k, bytes)?;
     }
+    Ok(())
 }
 
-fn main() {
-    let count = os::arg_count();
+fn main(rt: HostRuntime) -> Result<(), AllocError> {
+    let err = rt.stderr();
+    let count = argument_count(&rt);
     if count < 2 {
-        fault(b"usage: judge FILE ..\n");
-        return;
+        fault(&err, b"usage: judge FILE ..\n");
+        return Ok(());
     }
-    let mut bytes = image_buffer();
-    judge_files(count, &mut bytes);
+    let mut bytes = image_buffer(rt.alloc())?;
+    if judge_files(&rt, &err, count, &mut bytes).is_err() {
+        output_fault(&err, b"judge");
+    }
+    Ok(())
 }

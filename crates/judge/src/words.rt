@@ -1,22 +1,25 @@
 // Words and decimal numbers on standard output.
+use files::word::{PATH, argument};
 use image::bytes::wide;
+use std::env::Env;
+use std::io;
 
-pub fn say(text: &[u8]) {
-    let _written = io::write_all(1, text);
+pub fn say(rt: &impl Print, text: &[u8]) -> io::Result<()> {
+    rt.write_all(text)
 }
 
-pub fn say_number(text: &[u8], n: usize) {
-    say(text);
-    let _digits = io::print_decimal(1, n as u64);
+pub fn say_number(rt: &impl Print, text: &[u8], n: usize) -> io::Result<()> {
+    say(rt, text)?;
+    rt.print(n)
 }
 
-pub fn say_byte(text: &[u8], x: u8) {
-    say_number(text, wide(x));
+pub fn say_byte(rt: &impl Print, text: &[u8], x: u8) -> io::Result<()> {
+    say_number(rt, text, wide(x))
 }
 
 // The file that an argument names.
-pub fn say_name(k: usize) {
-    let mut path = io::buffer();
-    let n = os::arg(k, &mut path);
-    say(&path[..n]);
+pub fn say_name(rt: &(impl Env + Print), k: usize) -> io::Result<()> {
+    let mut path = [0u8; PATH];
+    let n = argument(rt, k, &mut path);
+    say(rt, &path[..n])
 }

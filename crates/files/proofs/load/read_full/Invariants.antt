@@ -1,0 +1,9 @@
+-- Each turn of `files::load::read_full` brings a byte at least, within the slice.
+use Rattle.std.proofs.Common.{◌≤◌, ◌-◌, length}
+use Rattle.files.proofs.load.read_full.Given as goal
+
+abbrev pub invariant-loop-done : goal.invariant-loop-done
+invariant-loop-done g l = l.done ≤ length l.bytes
+
+abbrev pub decreases-loop-done : goal.decreases-loop-done
+decreases-loop-done g l = length l.bytes - l.done
