@@ -51,7 +51,6 @@ fn wait(c: Controller, a: &mut [u8], b: &mut [u8], budget: u32) -> Waited
 }
 
 // A Seek or Recalibrate to its report.
-#[tactic(auto, using(crate::proofs::BoxLaws::came_whole, crate::proofs::HeadLaws::moved_parts, crate::proofs::HeadLaws::move_came, crate::proofs::HeadLaws::move_over))]
 fn move_head(c: Controller, a: &mut [u8], b: &mut [u8], bytes: &[u8], budget: u32) -> Moved
     ensures came { result.came
         ≡ (moved_of budget bytes.now (box_of c a.old b.old)).came }

@@ -66,7 +66,6 @@ fn reset(c: Controller, drive: u8) -> Controller
 }
 
 // The bytes of a command, one after the other.
-#[tactic(auto, using(crate::proofs::ReadyLaws::command_on, crate::proofs::ReadyLaws::command_over))]
 pub(crate) fn command(c: Controller, bytes: &[u8]) -> Controller
     ensures { result ≡ command_of bytes.now c }
 {

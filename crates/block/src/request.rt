@@ -117,7 +117,6 @@ fn fits(g: Geometry, bytes: usize) -> bool
     bytes == size_of(g.n) as usize
 }
 
-#[tactic(auto, using(crate::proofs::ServeLaws::read_whole, crate::proofs::RequestLaws::done_parts, crate::proofs::RequestLaws::read_ended, crate::proofs::RequestLaws::read_lost))]
 fn read_on(
     c: Controller,
     a: &mut [u8],
@@ -156,7 +155,7 @@ fn read_on(
     }
 }
 
-#[tactic(auto, using(crate::proofs::BoxLaws::came_whole, crate::proofs::RequestLaws::done_parts, crate::proofs::RequestLaws::read_there, crate::proofs::RequestLaws::read_not_there))]
+#[tactic(auto, using(crate::proofs::BoxLaws::came_whole, crate::proofs::RequestLaws::read_there))]
 fn read_at(
     c: Controller,
     a: &mut [u8],
@@ -229,7 +228,7 @@ fn read_in(
     read_at(c, a, b, drive, g, place_of(g, block), out)
 }
 
-#[tactic(auto, using(image::proofs::DiskLaws::present_fits), unfolding(crate::specs::Request::read_block, crate::specs::Request::read_in))]
+#[tactic(auto, unfolding(crate::specs::Request::read_block, crate::specs::Request::read_in))]
 pub fn read_block(
     c: Controller,
     a: &mut [u8],
@@ -265,7 +264,6 @@ pub fn read_block(
     }
 }
 
-#[tactic(auto, using(crate::proofs::BoxLaws::came_whole, crate::proofs::RequestLaws::written_parts, crate::proofs::RequestLaws::write_ended, crate::proofs::RequestLaws::write_lost))]
 fn write_on(
     c: Controller,
     a: &mut [u8],
@@ -302,7 +300,7 @@ fn write_on(
     }
 }
 
-#[tactic(auto, using(crate::proofs::BoxLaws::came_whole, crate::proofs::RequestLaws::written_parts, crate::proofs::RequestLaws::write_there, crate::proofs::RequestLaws::write_not_there))]
+#[tactic(auto, using(crate::proofs::BoxLaws::came_whole, crate::proofs::RequestLaws::write_there))]
 fn write_at(
     c: Controller,
     a: &mut [u8],
@@ -372,7 +370,7 @@ fn write_in(
     write_at(c, a, b, drive, g, place_of(g, block), bytes)
 }
 
-#[tactic(auto, using(image::proofs::DiskLaws::present_fits), unfolding(crate::specs::Request::write_block, crate::specs::Request::write_in))]
+#[tactic(auto, unfolding(crate::specs::Request::write_block, crate::specs::Request::write_in))]
 pub fn write_block(
     c: Controller,
     a: &mut [u8],
