@@ -68,7 +68,6 @@ fn bounded(s: &[u8]) -> bool
         )
 }
 
-#[tactic(auto, unfolding(crate::specs::Cycle::drives_still))]
 fn drives_still(s: &[u8]) -> bool
     requires { record_size ≤ length s.now }
     ensures { result ≡ drives_still s.now }

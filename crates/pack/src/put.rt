@@ -245,7 +245,6 @@ fn put_flat(s: &mut [u8], f: Flat)
     put_row(s, SPOT_ROW, d);
 }
 
-#[tactic(auto, using(crate::proofs::PutLaws::record_put))]
 fn put_record(s: &mut [u8], c: Controller)
     requires { record_size ≤ length s.old }
     ensures stored { s.new ≡ record_bytes c ++ drop record_size s.old }
@@ -266,7 +265,7 @@ fn put_record(s: &mut [u8], c: Controller)
 }
 
 // The record written to the bytes lent: those behind it stay, and too few stay as they are.
-#[tactic(auto, using(crate::proofs::BackLaws::holds), unfolding(crate::specs::Bytes::stored_of))]
+#[tactic(auto, unfolding(crate::specs::Bytes::stored_of))]
 pub fn store(s: &mut [u8], c: Controller)
     ensures bytes { s.new ≡ stored_of c s.old }
     ensures back { record_size ≤ length s.old → HoldsRecord s.new c }

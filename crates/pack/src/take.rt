@@ -312,7 +312,6 @@ fn spot_ok(row: [u8; 16]) -> bool
         & (row[OTHER_AT] <= 1)
 }
 
-#[tactic(auto, unfolding(crate::specs::Bytes::drives_ok))]
 fn drives_ok(s: &[u8]) -> bool
     requires { record_size ≤ length s.now }
     ensures { result ≡ drives_ok s.now }
@@ -323,7 +322,6 @@ fn drives_ok(s: &[u8]) -> bool
         & drive_ok(row_at(s, DRIVE3_ROW))
 }
 
-#[tactic(auto, unfolding(crate::specs::Bytes::flat_ok))]
 fn flat_ok(s: &[u8]) -> bool
     requires { record_size ≤ length s.now }
     ensures { result ≡ flat_ok s.now }
