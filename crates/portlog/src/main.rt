@@ -1,6 +1,6 @@
 // 01 Checked examples: a log of port calls from standard input, played on an empty box without ticks. For each call it
 // prints the line's number, the value (`--` for a write, `Rn` for refusal n), INT and DRQ. What a line says is decided
-// in `log`, what a call answers in `fdc`.
+// in `log_lines`, what a call answers in `fdc`.
 #![tactic(auto)]
 
 use fdc::answer::{Answer, Reply, refusal_number};
@@ -8,65 +8,61 @@ use fdc::record::Controller;
 use log_lines::gather::Gathered;
 use log_lines::hex::letter;
 use log_lines::line::{Expected, Line};
+use std::io;
+use std::io::Read;
 
-fn text(bytes: &[u8]) {
-    let _written = io::write_all(1, bytes);
+fn text(rt: &impl Print, bytes: &[u8]) -> io::Result<()> {
+    rt.write_all(bytes)
 }
 
-fn byte(b: u8) {
-    let one = [b];
-    text(&one);
+fn byte(rt: &impl Print, b: u8) -> io::Result<()> {
+    text(rt, &[b])
 }
 
-fn print_value(reply: Reply) {
+fn print_value(rt: &impl Print, reply: Reply) -> io::Result<()> {
     match reply {
-        Reply::Done => text(b"--"),
+        Reply::Done => text(rt, b"--"),
         Reply::Byte(value) => {
-            byte(letter(value / 16));
-            byte(letter(value));
+            byte(rt, letter(value / 16))?;
+            byte(rt, letter(value))
         }
         Reply::Refused(_) => {
-            byte(b'R');
-            byte(letter(refusal_number(reply)));
+            byte(rt, b'R')?;
+            byte(rt, letter(refusal_number(reply)))
         }
     }
 }
 
-fn print_flag(on: bool) {
-    if on {
-        text(b" 1");
-    } else {
-        text(b" 0");
-    }
+fn print_flag(rt: &impl Print, on: bool) -> io::Result<()> {
+    if on { text(rt, b" 1") } else { text(rt, b" 0") }
 }
 
-fn print_number(line: u64) {
-    let _written = io::print_decimal(1, line);
-    byte(b' ');
+fn print_number(rt: &impl Print, line: u64) -> io::Result<()> {
+    print!(rt; "{line} ")
 }
 
 // The answer to the call in that line; the record goes on to the next.
-fn print_answer(line: u64, answer: Answer) -> Controller {
+fn print_answer(rt: &impl Print, line: u64, answer: Answer) -> io::Result<Controller> {
     let reply = answer.reply;
-    print_number(line);
-    print_value(reply);
-    print_flag(answer.int);
-    print_flag(answer.drq);
-    byte(b'\n');
-    answer.controller
+    print_number(rt, line)?;
+    print_value(rt, reply)?;
+    print_flag(rt, answer.int)?;
+    print_flag(rt, answer.drq)?;
+    byte(rt, b'\n')?;
+    Ok(answer.controller)
 }
 
-fn print_expected(line: u64, what: Expected) {
-    print_number(line);
-    text(b"expected ");
+fn print_expected(rt: &impl Print, line: u64, what: Expected) -> io::Result<()> {
+    print_number(rt, line)?;
+    text(rt, b"expected ")?;
     match what {
-        Expected::Call => text(b"a call, w or r"),
-        Expected::Offset => text(b"an offset, a hexadecimal byte"),
-        Expected::Byte => text(b"a value, a hexadecimal byte"),
-        Expected::End => text(b"the end of the line"),
-        Expected::Shorter => text(b"a line of at most 255 bytes"),
+        Expected::Call => text(rt, b"a call, w or r")?,
+        Expected::Offset => text(rt, b"an offset, a hexadecimal byte")?,
+        Expected::Byte => text(rt, b"a value, a hexadecimal byte")?,
+        Expected::End => text(rt, b"the end of the line")?,
+        Expected::Shorter => text(rt, b"a line of at most 255 bytes")?,
     }
-    byte(b'\n');
+    byte(rt, b'\n')
 }
 
 // The box, the line that is being read and how many were read before it.
@@ -77,14 +73,21 @@ struct Run {
     lines: u64,
 }
 
-fn called(controller: Controller, number: u64, line: Line) -> Controller {
+fn called(
+    rt: &impl Print,
+    controller: Controller,
+    number: u64,
+    line: Line,
+) -> io::Result<Controller> {
     match line {
-        Line::Nothing => controller,
-        Line::Read(offset) => print_answer(number, controller.read_port(offset)),
-        Line::Write(offset, value) => print_answer(number, controller.write_port(offset, value)),
+        Line::Nothing => Ok(controller),
+        Line::Read(offset) => print_answer(rt, number, controller.read_port(offset)),
+        Line::Write(offset, value) => {
+            print_answer(rt, number, controller.write_port(offset, value))
+        }
         Line::Malformed(what) => {
-            print_expected(number, what);
-            controller
+            print_expected(rt, number, what)?;
+            Ok(controller)
         }
     }
 }
@@ -101,79 +104,60 @@ impl Run {
     }
 
     // The line's end was met. The count of lines wraps: no input is long enough to show it.
-    fn ended(self) -> Run {
-        let lines = std::num::wrapping_add_u64(self.lines, 1);
-        let controller = called(self.controller, lines, self.gathered.line());
+    fn ended(self, rt: &impl Print) -> io::Result<Run> {
+        let lines = self.lines.wrapping_add(1);
+        let controller = called(rt, self.controller, lines, self.gathered.line())?;
         let gathered = Gathered::new();
-        Run {
+        Ok(Run {
             controller,
             gathered,
             lines,
-        }
+        })
     }
 
-    fn taken(self, b: u8) -> Run {
+    fn taken(self, rt: &impl Print, b: u8) -> io::Result<Run> {
         if b == b'\n' {
-            return self.ended();
+            return self.ended(rt);
         }
         let controller = self.controller;
         let gathered = self.gathered.add(b);
-        Run {
+        Ok(Run {
             controller,
             gathered,
             lines: self.lines,
-        }
+        })
     }
 
-    fn fed(self, bytes: &[u8]) -> Run {
+    fn fed(self, rt: &impl Print, bytes: &[u8]) -> io::Result<Run> {
         let mut run = self;
-        let mut i = 0;
-        while i < bytes.len() {
-            run = run.taken(bytes[i]);
-            i += 1;
+        for b in bytes {
+            run = run.taken(rt, *b)?;
         }
-        run
+        Ok(run)
     }
 }
 
-// A run after a read, and whether the input may go on.
-#[derive(Clone, Copy)]
-struct Step {
-    run: Run,
-    more: bool,
+// Each read in turn, up to the input's end. The bound is one that no run uses up.
+fn read_all(rt: &(impl Input + Print), run: Run) -> io::Result<Run> {
+    let mut from = rt.reader();
+    let mut buf = [0u8; 4096];
+    let mut run = run;
+    for _ in 0..u64::MAX {
+        let n = from.read(&mut buf)?;
+        if n == 0 {
+            break;
+        }
+        run = run.fed(rt, &buf[..n])?;
+    }
+    Ok(run)
 }
 
-fn read_some(run: Run) -> Step {
-    let mut buf = io::buffer();
-    let got = libc::read(0, &mut buf);
-    if got <= 0 {
-        return Step { run, more: false };
-    }
-    let n = io::count(got, &buf);
-    let fed = run.fed(&buf[..n]);
-    Step {
-        run: fed,
-        more: true,
-    }
-}
-
-// A proved loop has to end, and nothing says that an input does. So the loop counts its turns down, from a number that
-// no run uses up.
-fn read_all(run: Run) -> Run {
-    let mut step = Step { run, more: true };
-    let mut turns = u64::MAX;
-    while turns > 0 && step.more {
-        step = read_some(step.run);
-        turns -= 1;
-    }
-    step.run
-}
-
-fn main() {
-    text(b"line value int drq\n");
-    let run = read_all(Run::new());
+fn main(rt: HostRuntime) -> io::Result<()> {
+    text(&rt, b"line value int drq\n")?;
+    let run = read_all(&rt, Run::new())?;
     // A last line without a line end.
     if run.gathered.length > 0 {
-        let _last = run.ended();
+        run.ended(&rt)?;
     }
+    Ok(())
 }
