@@ -16,7 +16,7 @@ use Rattle.demands.specs.History.{History}
 use Rattle.demands.specs.InTime.{AtTicks}
 use Rattle.demands.specs.ReadSucceeds.{AsTaken}
 use Rattle.demands.specs.Succeeds.{Noting}
-use Rattle.demands.specs.Work.{at_work, Its, Alone, EndsWith}
+use Rattle.demands.specs.Work.{at_work, image_by, Its, Alone, EndsWith}
 
 pub idles : ℕ → List Call
 idles zero = []
@@ -49,7 +49,7 @@ unfolding Alone run_calls
 alone_on drive img [] [] c s o = tt
 alone_on drive img (x ∷ more) [] c s o = λ w. absurd (true≢false (sym w ∙ o))
 alone_on drive img more (call ∷ calls) c s o =
-    λ w. let (lent, rest) = s w in (lent, alone_on drive _ more calls (after call c) rest o)
+    λ w. let (lent, rest) = s w in (lent, alone_on drive (image_by drive img call c) more calls (after call c) rest o)
 
 pub at_ticks_on : (P : Controller → Type 0) (more calls : List Call) (c : Controller) → AtTicks P calls c
     → at_work (run_calls calls c).phase ≡ false → AtTicks P (calls ++ more) c

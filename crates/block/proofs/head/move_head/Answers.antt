@@ -1,5 +1,5 @@
 -- `block::head::move_head` meets its contract.
-use Rattle.std.proofs.Common.{◌≡◌, ◌∙◌, sym}
+use Rattle.std.proofs.Common.{◌∙◌, sym}
 use Rattle.block.specs.Box.{box_of}
 use Rattle.block.specs.Head.{wait_of}
 use Rattle.block.proofs.BoxLaws.{came_whole}

@@ -1,5 +1,5 @@
 -- `block::ready::command` meets its contract.
-use Rattle.std.proofs.Common.{◌≡◌, ◌≤◌, arith, sym}
+use Rattle.std.proofs.Common.{arith, sym}
 use Rattle.block.proofs.ReadyLaws.{command_on, command_over}
 use Rattle.block.proofs.ready.command.Goals as goal
 

@@ -1,5 +1,5 @@
 -- `block::request::read_at` meets its contract.
-use Rattle.std.proofs.Common.{◌≡◌, ◌∙◌, sym}
+use Rattle.std.proofs.Common.{◌∙◌, sym}
 use Rattle.block.specs.Box.{box_of}
 use Rattle.block.specs.Head.{prepared_of}
 use Rattle.block.proofs.BoxLaws.{came_whole}

@@ -1,5 +1,5 @@
 -- `block::request::read_on` meets its contract.
-use Rattle.std.proofs.Common.{◌≡◌, ◌∙◌, sym}
+use Rattle.std.proofs.Common.{◌∙◌, sym}
 use Rattle.block.specs.Box.{box_of}
 use Rattle.block.specs.Serve.{reads_of}
 use Rattle.block.proofs.ServeLaws.{read_whole}

@@ -1,5 +1,5 @@
 -- `block::request::write_on` meets its contract.
-use Rattle.std.proofs.Common.{◌≡◌, ◌∙◌, sym}
+use Rattle.std.proofs.Common.{◌∙◌, sym}
 use Rattle.block.specs.Box.{box_of}
 use Rattle.block.specs.Serve.{writes_of}
 use Rattle.block.proofs.BoxLaws.{came_whole}
