@@ -28,7 +28,7 @@ fn differ(int: bool, drq: bool, next_int: bool, next_drq: bool) -> bool
 }
 
 // The ticks left of n, each in full.
-#[tactic(auto, using(crate::proofs::RunLaws::image_length, crate::proofs::RunLaws::finished, crate::proofs::RunLaws::goes_on_lem, crate::proofs::RunLaws::stops, crate::proofs::RunLaws::parts))]
+#[tactic(auto, using(crate::proofs::RunLaws::image_length, crate::proofs::RunLaws::goes_on_lem))]
 fn run(c: Controller, a: &mut [u8], b: &mut [u8], n: u32, rest: u32) -> Ran
     requires { rest ≤ n }
     ensures answer { result.answer
