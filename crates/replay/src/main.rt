@@ -7,51 +7,74 @@
 #![tactic(auto)]
 
 mod drives;
+mod output;
 mod run;
 
 use drives::{image_in, put_back, twice};
-use files::fault::program_fault;
+use files::fault::{output_fault, program_fault, system_fault};
 use files::image::{Image, image_buffer};
+use files::word::argument_count;
+use output::Output;
 use run::play_lines;
+use std::alloc::AllocError;
+use std::env::Env;
+use std::fs::Files;
 
-fn play(first: Image, second: Image, a: &mut [u8], b: &mut [u8]) {
-    let _written = io::write_all(1, b"line value int drq\n");
-    let mut buf = io::buffer();
-    play_lines(&mut buf, a, b);
-    put_back(1, first.fd, a);
-    put_back(2, second.fd, b);
+// The log from standard input, played to standard output.
+fn play_input(rt: &(impl Input + Print), err: &impl Print, a: &mut [u8], b: &mut [u8]) {
+    let mut out = Output::new(rt);
+    out.text(b"line value int drq\n");
+    let mut buf = [0u8; 4096];
+    if let Err(why) = play_lines(&mut rt.reader(), &mut out, err, &mut buf, a, b) {
+        system_fault(err, b"replay", b"standard input", why);
+    }
+    if !out.whole() {
+        output_fault(err, b"replay");
+    }
 }
 
-// The images are as long as their files.
-fn play_within(first: Image, second: Image, a: &mut [u8], b: &mut [u8]) {
-    let n = first.length;
-    let m = second.length;
-    if n <= a.len() {
-        if m <= b.len() {
-            play(first, second, &mut a[..n], &mut b[..m]);
-        }
-    }
+fn play<R: Files + Env + Input + Print>(
+    rt: &R,
+    err: &impl Print,
+    first: Image<R::File>,
+    second: Image<R::File>,
+    a: &mut [u8],
+    b: &mut [u8],
+) {
+    play_input(rt, err, a, b);
+    put_back(rt, err, 1, first.file, a);
+    put_back(rt, err, 2, second.file, b);
 }
 
 // Nothing is played where an image cannot be had.
-fn play_files(a: &mut [u8], b: &mut [u8]) {
-    if 3 < os::arg_count() {
-        program_fault(b"replay", b"at most two images");
+fn play_files<R: Files + Env + Input + Print>(
+    rt: &R,
+    err: &impl Print,
+    a: &mut [u8],
+    b: &mut [u8],
+) {
+    if 3 < argument_count(rt) {
+        program_fault(err, b"replay", b"at most two images");
         return;
     }
-    if twice() {
-        program_fault(b"replay", b"the same image is named twice");
+    if twice(rt) {
+        program_fault(err, b"replay", b"the same image is named twice");
         return;
     }
-    let first = image_in(1, a);
-    let second = image_in(2, b);
+    let first = image_in(rt, err, 1, a);
+    let second = image_in(rt, err, 2, b);
     if first.good & second.good {
-        play_within(first, second, a, b);
+        // The images are as long as their files.
+        let n = first.length;
+        let m = second.length;
+        play(rt, err, first, second, &mut a[..n], &mut b[..m]);
     }
 }
 
-fn main() {
-    let mut a = image_buffer();
-    let mut b = image_buffer();
-    play_files(&mut a, &mut b);
+fn main(rt: HostRuntime) -> Result<(), AllocError> {
+    let err = rt.stderr();
+    let mut a = image_buffer(rt.alloc())?;
+    let mut b = image_buffer(rt.alloc())?;
+    play_files(&rt, &err, &mut a, &mut b);
+    Ok(())
 }

@@ -1,70 +1,66 @@
 // The run: lines are gathered from standard input, their calls made and their answers printed.
+use crate::output::Output;
 use fdc::answer::Reply;
 use fdc::record::Controller;
+use files::fault::fault;
 use log_lines::gather::Gathered;
 use player::shown::{answer_text, differs, mark_text, refused};
 use player::turn::called;
 use script::line::{Expected, Line, gathered_line};
 use script::tally::Tally;
+use std::io;
+use std::io::Read;
 
-fn text(bytes: &[u8]) {
-    let _written = io::write_all(1, bytes);
-}
-
-fn fault(bytes: &[u8]) {
-    let _written = io::write_all(2, bytes);
-}
-
-fn print_expected(line: u64, what: Expected) {
-    fault(b"replay: line ");
-    let _written = io::print_decimal(2, line);
-    fault(b": expected ");
+fn print_expected(err: &impl Print, line: u64, what: Expected) {
+    fault(err, b"replay: line ");
+    let _written = err.print(line);
+    fault(err, b": expected ");
     match what {
-        Expected::Call => fault(b"a call: p, w, r, dr, dw, c or t"),
-        Expected::Head => fault(b"a head position, a decimal number up to 255"),
-        Expected::Offset => fault(b"an offset, a hexadecimal byte"),
-        Expected::Byte => fault(b"a value, a hexadecimal byte"),
-        Expected::Tc => fault(b"TC, 0 or 1"),
-        Expected::Drive => fault(b"a drive, a hexadecimal byte"),
-        Expected::Count => fault(b"a count of ticks, a decimal number up to 999999999"),
-        Expected::End => fault(b"the end of the line"),
-        Expected::Shorter => fault(b"a line of at most 255 bytes"),
+        Expected::Call => fault(err, b"a call: p, w, r, dr, dw, c or t"),
+        Expected::Head => fault(err, b"a head position, a decimal number up to 255"),
+        Expected::Offset => fault(err, b"an offset, a hexadecimal byte"),
+        Expected::Byte => fault(err, b"a value, a hexadecimal byte"),
+        Expected::Tc => fault(err, b"TC, 0 or 1"),
+        Expected::Drive => fault(err, b"a drive, a hexadecimal byte"),
+        Expected::Count => fault(err, b"a count of ticks, a decimal number up to 999999999"),
+        Expected::End => fault(err, b"the end of the line"),
+        Expected::Shorter => fault(err, b"a line of at most 255 bytes"),
     }
-    fault(b"; nothing after it is played\n");
+    fault(err, b"; nothing after it is played\n");
 }
 
-fn print_answer(line: u64, reply: Reply, int: bool, drq: bool) {
-    let _written = io::print_decimal(1, line);
+fn print_answer<P: Print>(out: &mut Output<'_, P>, line: u64, reply: Reply, int: bool, drq: bool) {
+    out.number(line);
     let shown = answer_text(reply, int, drq);
-    text(&shown);
+    out.text(&shown);
 }
 
-fn print_mark(recorded: u8) {
+fn print_mark<P: Print>(out: &mut Output<'_, P>, recorded: u8) {
     let mark = mark_text(recorded);
-    text(&mark);
+    out.text(&mark);
 }
 
 // A recorded value is compared, and marked where it differs.
-fn compared(line: Line, reply: Reply, tally: Tally) -> Tally {
+fn compared<P: Print>(out: &mut Output<'_, P>, line: Line, reply: Reply, tally: Tally) -> Tally {
     if let Line::Recorded(_, byte) = line {
         let other = differs(reply, byte);
         if other {
-            print_mark(byte);
+            print_mark(out, byte);
         }
         return tally.compared(other);
     }
     tally
 }
 
-fn print_counts(tally: Tally) {
+fn print_counts<P: Print>(out: &mut Output<'_, P>, tally: Tally) {
     if tally.recorded {
-        text(b"calls ");
-        let _calls = io::print_decimal(1, tally.calls);
-        text(b" refusals ");
-        let _refusals = io::print_decimal(1, tally.refusals);
-        text(b" differences ");
-        let _differences = io::print_decimal(1, tally.differences);
-        text(b"\n");
+        out.text(b"calls ");
+        out.number(tally.calls);
+        out.text(b" refusals ");
+        out.number(tally.refusals);
+        out.text(b" differences ");
+        out.number(tally.differences);
+        out.text(b"\n");
     }
 }
 
@@ -93,7 +89,7 @@ impl Reader {
     fn next(self) -> Reader {
         let mut reader = self;
         reader.gathered = Gathered::new();
-        reader.lines = std::num::wrapping_add_u64(self.lines, 1);
+        reader.lines = self.lines.wrapping_add(1);
         reader
     }
 
@@ -110,24 +106,32 @@ impl Reader {
     }
 
     // The answer to the line's call is printed and counted.
-    fn answered(self, line: Line, reply: Reply, int: bool, drq: bool) -> Reader {
-        print_answer(self.lines, reply, int, drq);
+    fn answered<P: Print>(
+        self,
+        out: &mut Output<'_, P>,
+        line: Line,
+        reply: Reply,
+        int: bool,
+        drq: bool,
+    ) -> Reader {
+        print_answer(out, self.lines, reply, int, drq);
         let tally = self.tally.called(refused(reply));
         let mut reader = self;
-        reader.tally = compared(line, reply, tally);
-        text(b"\n");
+        reader.tally = compared(out, line, reply, tally);
+        out.text(b"\n");
         reader
     }
 }
 
 // The input as far as it was read: the bytes of a buffer from `at` up to `count` are still to be taken. `whole`: a
-// line's end was met.
+// line's end was met. `read`: how the last read went.
 #[derive(Clone, Copy)]
 struct Input {
     reader: Reader,
     at: usize,
     count: usize,
     whole: bool,
+    read: io::Result<()>,
 }
 
 impl Input {
@@ -138,6 +142,7 @@ impl Input {
             at: 0,
             count: 0,
             whole: false,
+            read: Ok(()),
         }
     }
 
@@ -146,11 +151,24 @@ impl Input {
         input.reader = reader;
         input
     }
+
+    // Where nothing comes, the line that stands is the last.
+    fn last(self, read: io::Result<()>) -> Input {
+        let reader = self.reader.stopped();
+        Input {
+            reader,
+            at: 0,
+            count: 0,
+            whole: true,
+            read,
+        }
+    }
 }
 
 // Bytes are gathered up to the next line's end, or to the last that was read.
 fn gathered(input: Input, buf: &[u8]) -> Input {
     let count = input.count;
+    let read = input.read;
     let mut reader = input.reader;
     let mut i = input.at;
     while i < count && i < buf.len() {
@@ -161,6 +179,7 @@ fn gathered(input: Input, buf: &[u8]) -> Input {
                 at: next,
                 count,
                 whole: true,
+                read,
             };
         }
         reader = reader.added(buf[i]);
@@ -171,42 +190,39 @@ fn gathered(input: Input, buf: &[u8]) -> Input {
         at: 0,
         count: 0,
         whole: false,
+        read,
     }
 }
 
-// One read more, into a buffer whose bytes are all taken. Where nothing comes, the line that stands is the last.
-fn read_more(input: Input, buf: &mut [u8]) -> Input {
-    let reader = input.reader;
-    let got = libc::read(0, buf);
-    if got <= 0 {
-        let last = reader.stopped();
-        return Input {
-            reader: last,
-            at: 0,
-            count: 0,
-            whole: true,
-        };
+// One read more, into a buffer whose bytes are all taken. One that fails ends the input too.
+fn read_more(from: &mut impl Read, input: Input, buf: &mut [u8]) -> Input {
+    match from.read(buf) {
+        Ok(0) => input.last(Ok(())),
+        Ok(count) => {
+            let reader = input.reader;
+            gathered(
+                Input {
+                    reader,
+                    at: 0,
+                    count,
+                    whole: false,
+                    read: Ok(()),
+                },
+                buf,
+            )
+        }
+        Err(why) => input.last(Err(why)),
     }
-    let count = io::count(got, buf);
-    gathered(
-        Input {
-            reader,
-            at: 0,
-            count,
-            whole: false,
-        },
-        buf,
-    )
 }
 
-// A whole line. A proved loop has to end, and nothing says that an input does. So the loop counts its turns down, from
-// a number that no run uses up.
-fn read_line(input: Input, buf: &mut [u8]) -> Input {
+// A whole line. The bound is one that no run uses up.
+fn read_line(from: &mut impl Read, input: Input, buf: &mut [u8]) -> Input {
     let mut line = gathered(input, buf);
-    let mut turns = u64::MAX;
-    while turns > 0 && !line.whole {
-        turns -= 1;
-        line = read_more(line, buf);
+    for _ in 0..u64::MAX {
+        if line.whole {
+            break;
+        }
+        line = read_more(from, line, buf);
     }
     line
 }
@@ -219,14 +235,21 @@ struct Run {
 }
 
 // The call that the gathered line says is made, its answer printed and counted.
-fn said(controller: Controller, gathered: Reader, a: &mut [u8], b: &mut [u8]) -> Run {
+fn said<P: Print>(
+    out: &mut Output<'_, P>,
+    err: &impl Print,
+    controller: Controller,
+    gathered: Reader,
+    a: &mut [u8],
+    b: &mut [u8],
+) -> Run {
     let line = gathered_line(gathered.gathered);
     let reader = gathered.next();
     if let Line::Nothing = line {
         return Run { controller, reader };
     }
     if let Line::Malformed(what) = line {
-        print_expected(reader.lines, what);
+        print_expected(err, reader.lines, what);
         let stopped = reader.stopped();
         return Run {
             controller,
@@ -235,7 +258,7 @@ fn said(controller: Controller, gathered: Reader, a: &mut [u8], b: &mut [u8]) ->
     }
     let answer = called(controller, line, a, b);
     let reply = answer.reply;
-    let counted = reader.answered(line, reply, answer.int, answer.drq);
+    let counted = reader.answered(out, line, reply, answer.int, answer.drq);
     let next = answer.controller;
     Run {
         controller: next,
@@ -251,23 +274,41 @@ struct Step {
 }
 
 // One line more.
-fn turn(step: Step, buf: &mut [u8], a: &mut [u8], b: &mut [u8]) -> Step {
-    let line = read_line(step.input, buf);
-    let run = said(step.controller, line.reader, a, b);
+fn turn<P: Print>(
+    from: &mut impl Read,
+    out: &mut Output<'_, P>,
+    err: &impl Print,
+    step: Step,
+    buf: &mut [u8],
+    a: &mut [u8],
+    b: &mut [u8],
+) -> Step {
+    let line = read_line(from, step.input, buf);
+    let run = said(out, err, step.controller, line.reader, a, b);
     let controller = run.controller;
     let input = line.with(run.reader);
     Step { controller, input }
 }
 
-// Each line in turn, up to the last. A log that does not begin with power-on finds the heads at 0.
-pub fn play_lines(buf: &mut [u8], a: &mut [u8], b: &mut [u8]) {
+// Each line in turn, up to the last; how the last read went. A log that does not begin with power-on finds the heads
+// at 0. The bound is one that no run uses up.
+pub fn play_lines<P: Print>(
+    from: &mut impl Read,
+    out: &mut Output<'_, P>,
+    err: &impl Print,
+    buf: &mut [u8],
+    a: &mut [u8],
+    b: &mut [u8],
+) -> io::Result<()> {
     let controller = Controller::power_on(0, 0).controller;
     let input = Input::new();
     let mut step = Step { controller, input };
-    let mut turns = u64::MAX;
-    while turns > 0 && step.input.reader.on {
-        turns -= 1;
-        step = turn(step, buf, a, b);
+    for _ in 0..u64::MAX {
+        if !step.input.reader.on {
+            break;
+        }
+        step = turn(from, out, err, step, buf, a, b);
     }
-    print_counts(step.input.reader.tally);
+    print_counts(out, step.input.reader.tally);
+    step.input.read
 }
