@@ -1,8 +1,9 @@
 // The command line: a word for what is to be done, an image, and numbers.
 use files::fault::{argument_fault, fault};
-use files::word::same;
+use files::word::{PATH, argument, argument_count, same};
 use log_lines::words::Word;
 use script::decimal::{Decimal, decimal_in};
+use std::env::Env;
 
 #[derive(Clone, Copy)]
 pub enum Command {
@@ -51,32 +52,38 @@ fn words(command: Command) -> usize {
 }
 
 // The command of the line that the program was called by, where it has its words.
-pub fn asked() -> Command {
-    let mut word = io::buffer();
-    let n = os::arg(1, &mut word);
+pub fn asked(rt: &impl Env) -> Command {
+    let mut word = [0u8; PATH];
+    let n = argument(rt, 1, &mut word);
     let found = command_in(&word[..n]);
-    if words(found) == os::arg_count() {
+    if words(found) == argument_count(rt) {
         return found;
     }
     Command::None
 }
 
-pub fn usage() {
-    fault(b"usage: blocks new IMAGE CYLINDERS HEADS SECTORS N\n");
-    fault(b"       blocks count IMAGE\n");
-    fault(b"       blocks read IMAGE BLOCK\n");
-    fault(b"       blocks write IMAGE BLOCK\n");
-    fault(b"       blocks export IMAGE\n");
-    fault(b"       blocks import IMAGE\n");
+pub fn usage(err: &impl Print) {
+    fault(err, b"usage: blocks new IMAGE CYLINDERS HEADS SECTORS N\n");
+    fault(err, b"       blocks count IMAGE\n");
+    fault(err, b"       blocks read IMAGE BLOCK\n");
+    fault(err, b"       blocks write IMAGE BLOCK\n");
+    fault(err, b"       blocks export IMAGE\n");
+    fault(err, b"       blocks import IMAGE\n");
 }
 
 // The number that an argument says; what is none is named.
-pub fn number(k: usize) -> Decimal {
-    let mut word = io::buffer();
-    let n = os::arg(k, &mut word);
+pub fn number(rt: &impl Env, err: &impl Print, k: usize) -> Decimal {
+    let mut word = [0u8; PATH];
+    let n = argument(rt, k, &mut word);
     let decimal = decimal_in(&word[..n], Word { start: 0, stop: n });
     if let Decimal::None = decimal {
-        argument_fault(b"blocks", k, b"expected a decimal number below 1000000000");
+        argument_fault(
+            rt,
+            err,
+            b"blocks",
+            k,
+            b"expected a decimal number below 1000000000",
+        );
     }
     decimal
 }

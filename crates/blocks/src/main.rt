@@ -14,34 +14,55 @@ use command::{Command, asked, number, usage};
 use files::image::image_buffer;
 use make::make;
 use script::decimal::Decimal;
+use std::alloc::AllocError;
+use std::env::Env;
+use std::fs::Files;
 use task::{Task, with_image};
 
-fn read(image: &mut [u8], bytes: &mut [u8]) {
-    if let Decimal::Value(block) = number(3) {
-        with_image(Task::Read(block), image, bytes);
+fn read<R: Files + Env + Input + Print>(
+    rt: &R,
+    err: &impl Print,
+    image: &mut [u8],
+    bytes: &mut [u8],
+) {
+    if let Decimal::Value(block) = number(rt, err, 3) {
+        with_image(rt, err, Task::Read(block), image, bytes);
     }
 }
 
-fn write(image: &mut [u8], bytes: &mut [u8]) {
-    if let Decimal::Value(block) = number(3) {
-        with_image(Task::Write(block), image, bytes);
+fn write<R: Files + Env + Input + Print>(
+    rt: &R,
+    err: &impl Print,
+    image: &mut [u8],
+    bytes: &mut [u8],
+) {
+    if let Decimal::Value(block) = number(rt, err, 3) {
+        with_image(rt, err, Task::Write(block), image, bytes);
     }
 }
 
-fn obey(command: Command, image: &mut [u8], bytes: &mut [u8]) {
+fn obey<R: Files + Env + Input + Print>(
+    rt: &R,
+    err: &impl Print,
+    command: Command,
+    image: &mut [u8],
+    bytes: &mut [u8],
+) {
     match command {
-        Command::New => make(image),
-        Command::Count => with_image(Task::Count, image, bytes),
-        Command::Read => read(image, bytes),
-        Command::Write => write(image, bytes),
-        Command::Export => with_image(Task::Export, image, bytes),
-        Command::Import => with_image(Task::Import, image, bytes),
-        Command::None => usage(),
+        Command::New => make(rt, err, image),
+        Command::Count => with_image(rt, err, Task::Count, image, bytes),
+        Command::Read => read(rt, err, image, bytes),
+        Command::Write => write(rt, err, image, bytes),
+        Command::Export => with_image(rt, err, Task::Export, image, bytes),
+        Command::Import => with_image(rt, err, Task::Import, image, bytes),
+        Command::None => usage(err),
     }
 }
 
-fn main() {
-    let mut image = image_buffer();
-    let mut bytes = image_buffer();
-    obey(asked(), &mut image, &mut bytes);
+fn main(rt: HostRuntime) -> Result<(), AllocError> {
+    let err = rt.stderr();
+    let mut image = image_buffer(rt.alloc())?;
+    let mut bytes = image_buffer(rt.alloc())?;
+    obey(&rt, &err, asked(&rt), &mut image, &mut bytes);
+    Ok(())
 }

@@ -2,7 +2,8 @@
 use crate::status::named;
 use block::request::{read_block, write_block};
 use fdc::record::Controller;
-use files::fault::program_fault;
+use files::fault::output_fault;
+use std::io;
 
 // The record after a block, and whether the run goes on.
 #[derive(Clone, Copy)]
@@ -19,40 +20,48 @@ fn begun() -> Run {
     }
 }
 
-fn clear(out: &mut [u8]) {
-    let mut i = 0;
-    while i < out.len() {
-        out[i] = 0;
-        i += 1;
-    }
-}
-
-fn print(out: &[u8]) -> bool {
-    if io::write_all(1, out) {
+// Whether standard output took what was written there.
+pub fn taken(err: &impl Print, written: io::Result<()>) -> bool {
+    if written.is_ok() {
         return true;
     }
-    program_fault(b"blocks", b"standard output could not be written");
+    output_fault(err, b"blocks");
     false
 }
 
 // A block to standard output: of a bad one the bytes that came, then zeros, so that those behind keep their offsets.
-fn read_one(run: Run, image: &mut [u8], none: &mut [u8], block: u32, out: &mut [u8]) -> Run {
-    clear(out);
+fn read_one(
+    rt: &impl Print,
+    err: &impl Print,
+    run: Run,
+    image: &mut [u8],
+    none: &mut [u8],
+    block: u32,
+    out: &mut [u8],
+) -> Run {
+    out.fill(0);
     let served = read_block(run.controller, image, none, 0, block, out);
     let controller = served.controller;
     let reply = served.reply;
-    named(block, reply);
+    named(err, block, reply);
     Run {
         controller,
-        on: print(out),
+        on: taken(err, rt.write_all(out)),
     }
 }
 
-fn write_one(run: Run, image: &mut [u8], none: &mut [u8], block: u32, bytes: &[u8]) -> Run {
+fn write_one(
+    err: &impl Print,
+    run: Run,
+    image: &mut [u8],
+    none: &mut [u8],
+    block: u32,
+    bytes: &[u8],
+) -> Run {
     let served = write_block(run.controller, image, none, 0, block, bytes);
     let controller = served.controller;
     let reply = served.reply;
-    named(block, reply);
+    named(err, block, reply);
     Run {
         controller,
         on: true,
@@ -60,22 +69,29 @@ fn write_one(run: Run, image: &mut [u8], none: &mut [u8], block: u32, bytes: &[u
 }
 
 // So many blocks from the first on, in order; `out` is as long as one. The number wraps: no image has as many.
-pub fn read_from(image: &mut [u8], none: &mut [u8], first: u32, count: u32, out: &mut [u8]) {
+pub fn read_from(
+    rt: &impl Print,
+    err: &impl Print,
+    image: &mut [u8],
+    none: &mut [u8],
+    first: u32,
+    count: u32,
+    out: &mut [u8],
+) {
     let mut run = begun();
     let mut block = first;
-    let mut left = count;
-    while left > 0 {
-        left -= 1;
-        run = read_one(run, image, none, block, out);
+    for _ in 0..count {
+        run = read_one(rt, err, run, image, none, block, out);
         if !run.on {
             return;
         }
-        block = std::num::wrapping_add_u32(block, 1);
+        block = block.wrapping_add(1);
     }
 }
 
 // The same, each with its bytes, as far as there are any.
 pub fn write_from(
+    err: &impl Print,
     image: &mut [u8],
     none: &mut [u8],
     first: u32,
@@ -85,16 +101,14 @@ pub fn write_from(
 ) {
     let mut run = begun();
     let mut block = first;
-    let mut left = count;
     let mut at = 0;
-    while left > 0 {
-        left -= 1;
+    for _ in 0..count {
         if bytes.len() - at < size {
             return;
         }
         let next = at + size;
-        run = write_one(run, image, none, block, &bytes[at..next]);
-        block = std::num::wrapping_add_u32(block, 1);
+        run = write_one(err, run, image, none, block, &bytes[at..next]);
+        block = block.wrapping_add(1);
         at = next;
     }
 }

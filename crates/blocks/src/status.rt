@@ -49,65 +49,65 @@ fn fault_of(st1: u8, st2: u8) -> Fault
     Fault::Other
 }
 
-fn say(why: Fault) {
+fn say(err: &impl Print, why: Fault) {
     match why {
-        Fault::DataError => fault(b"data error"),
-        Fault::Protected => fault(b"protected"),
-        Fault::NoData => fault(b"an address without data"),
-        Fault::NotFound => fault(b"no such address"),
-        Fault::Missing => fault(b"missing address"),
-        Fault::Overrun => fault(b"overrun"),
-        Fault::Other => fault(b"failed"),
+        Fault::DataError => fault(err, b"data error"),
+        Fault::Protected => fault(err, b"protected"),
+        Fault::NoData => fault(err, b"an address without data"),
+        Fault::NotFound => fault(err, b"no such address"),
+        Fault::Missing => fault(err, b"missing address"),
+        Fault::Overrun => fault(err, b"overrun"),
+        Fault::Other => fault(err, b"failed"),
     }
 }
 
-fn say_byte(byte: u8) {
-    fault(&[letter(byte / 16), letter(byte)]);
+fn say_byte(err: &impl Print, byte: u8) {
+    fault(err, &[letter(byte / 16), letter(byte)]);
 }
 
-fn say_ending(ending: Ending) {
-    fault(b" (ST0 ");
-    say_byte(ending.st0);
-    fault(b" ST1 ");
-    say_byte(ending.st1);
-    fault(b" ST2 ");
-    say_byte(ending.st2);
-    fault(b")\n");
+fn say_ending(err: &impl Print, ending: Ending) {
+    fault(err, b" (ST0 ");
+    say_byte(err, ending.st0);
+    fault(err, b" ST1 ");
+    say_byte(err, ending.st1);
+    fault(err, b" ST2 ");
+    say_byte(err, ending.st2);
+    fault(err, b")\n");
 }
 
 // A bad block by its number.
-fn name_block(block: u32) {
-    fault(b"blocks: block ");
-    let _written = io::print_decimal(2, block as u64);
-    fault(b": ");
+fn name_block(err: &impl Print, block: u32) {
+    fault(err, b"blocks: block ");
+    let _written = err.print(block);
+    fault(err, b": ");
 }
 
-fn ended(block: u32, ending: Ending) {
+fn ended(err: &impl Print, block: u32, ending: Ending) {
     if bad(ending.st0) {
-        name_block(block);
-        say(fault_of(ending.st1, ending.st2));
-        say_ending(ending);
+        name_block(err, block);
+        say(err, fault_of(ending.st1, ending.st2));
+        say_ending(err, ending);
     }
 }
 
 // A block that is one is not spoken of. The service refuses none that is asked for here, and its waits do not run out.
-pub fn named(block: u32, reply: Reply) {
+pub fn named(err: &impl Print, block: u32, reply: Reply) {
     match reply {
-        Reply::Ended(ending) => ended(block, ending),
-        Reply::RanOut(ending) => ended(block, ending),
+        Reply::Ended(ending) => ended(err, block, ending),
+        Reply::RanOut(ending) => ended(err, block, ending),
         Reply::Refused(number) => {
-            name_block(block);
-            fault(b"refused, ");
-            say_byte(number);
-            fault(b"\n");
+            name_block(err, block);
+            fault(err, b"refused, ");
+            say_byte(err, number);
+            fault(err, b"\n");
         }
     }
 }
 
 // The whole line for a block that is not there.
-pub fn past_end(block: u32, count: u32) {
-    name_block(block);
-    fault(b"past the end, the image has ");
-    let _written = io::print_decimal(2, count as u64);
-    fault(b" blocks\n");
+pub fn past_end(err: &impl Print, block: u32, count: u32) {
+    name_block(err, block);
+    fault(err, b"past the end, the image has ");
+    let _written = err.print(count);
+    fault(err, b" blocks\n");
 }

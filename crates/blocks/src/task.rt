@@ -1,11 +1,14 @@
 // What is done with the blocks of an image file.
-use crate::serve::{read_from, write_from};
+use crate::serve::{read_from, taken, write_from};
 use crate::status::past_end;
 use block::place::{blocks_in, bytes_in};
 use files::fault::{argument_fault, fault, system_fault};
 use files::image::image_of;
 use files::keep::kept;
 use files::load::load;
+use std::env::Env;
+use std::fs::Files;
+use std::io::{Read, Seek, Write};
 
 #[derive(Clone, Copy)]
 pub enum Task {
@@ -27,41 +30,53 @@ fn updates(task: Task) -> bool {
     }
 }
 
-fn expected(n: usize) {
-    fault(b"blocks: standard input: expected exactly ");
-    let _written = io::print_decimal(2, n as u64);
-    fault(b" bytes\n");
+fn expected(err: &impl Print, n: usize) {
+    fault(err, b"blocks: standard input: expected exactly ");
+    let _written = err.print(n);
+    fault(err, b" bytes\n");
 }
 
 // Standard input, where it is exactly as long as the slice.
-fn input(bytes: &mut [u8]) -> bool {
-    let read = load(0, bytes);
-    if read.more < 0 {
-        system_fault(b"blocks", b"standard input");
-        return false;
+fn input(rt: &impl Input, err: &impl Print, bytes: &mut [u8]) -> bool {
+    match load(&mut rt.reader(), bytes) {
+        Ok(read) => {
+            let other = read.more | (read.length < bytes.len());
+            if other {
+                expected(err, bytes.len());
+                return false;
+            }
+            true
+        }
+        Err(why) => {
+            system_fault(err, b"blocks", b"standard input", why);
+            false
+        }
     }
-    let other = (read.more > 0) | (read.length < bytes.len());
-    if other {
-        expected(bytes.len());
-        return false;
-    }
-    true
 }
 
-fn print_count(count: u32) {
-    let _digits = io::print_decimal(1, count as u64);
-    let _end = io::write_all(1, b"\n");
+fn print_count(rt: &impl Print, err: &impl Print, count: u32) {
+    let _taken = taken(err, rt.println(count));
 }
 
 // So many blocks from the first on; the buffer is longer than any block. The other drive is empty.
-fn read(image: &mut [u8], none: &mut [u8], first: u32, count: u32, bytes: &mut [u8]) {
+fn read(
+    rt: &impl Print,
+    err: &impl Print,
+    image: &mut [u8],
+    none: &mut [u8],
+    first: u32,
+    count: u32,
+    bytes: &mut [u8],
+) {
     let size = bytes_in(image) as usize;
     if size <= bytes.len() {
-        read_from(image, none, first, count, &mut bytes[0..size]);
+        read_from(rt, err, image, none, first, count, &mut bytes[0..size]);
     }
 }
 
 fn write_input(
+    rt: &impl Input,
+    err: &impl Print,
     image: &mut [u8],
     none: &mut [u8],
     first: u32,
@@ -69,17 +84,27 @@ fn write_input(
     size: usize,
     bytes: &mut [u8],
 ) {
-    if input(bytes) {
-        write_from(image, none, first, count, size, bytes);
+    if input(rt, err, bytes) {
+        write_from(err, image, none, first, count, size, bytes);
     }
 }
 
 #[tactic(auto, using(image::proofs::LayoutLaws::product_le))]
-fn write(image: &mut [u8], none: &mut [u8], first: u32, count: u32, bytes: &mut [u8]) {
+fn write(
+    rt: &impl Input,
+    err: &impl Print,
+    image: &mut [u8],
+    none: &mut [u8],
+    first: u32,
+    count: u32,
+    bytes: &mut [u8],
+) {
     let size = bytes_in(image);
     let total = count as usize * size as usize;
     if total <= bytes.len() {
         write_input(
+            rt,
+            err,
             image,
             none,
             first,
@@ -90,10 +115,19 @@ fn write(image: &mut [u8], none: &mut [u8], first: u32, count: u32, bytes: &mut 
     }
 }
 
-fn perform(task: Task, image: &mut [u8], none: &mut [u8], bytes: &mut [u8]) {
+fn perform<R: Env + Input + Print>(
+    rt: &R,
+    err: &impl Print,
+    task: Task,
+    image: &mut [u8],
+    none: &mut [u8],
+    bytes: &mut [u8],
+) {
     let count = blocks_in(image);
     if count == 0 {
         argument_fault(
+            rt,
+            err,
             b"blocks",
             2,
             b"no image: its header or its length does not fit",
@@ -101,49 +135,62 @@ fn perform(task: Task, image: &mut [u8], none: &mut [u8], bytes: &mut [u8]) {
         return;
     }
     match task {
-        Task::Count => print_count(count),
+        Task::Count => print_count(rt, err, count),
         Task::Read(block) => {
             if block < count {
-                read(image, none, block, 1, bytes);
+                read(rt, err, image, none, block, 1, bytes);
                 return;
             }
-            past_end(block, count);
+            past_end(err, block, count);
         }
         Task::Write(block) => {
             if block < count {
-                write(image, none, block, 1, bytes);
+                write(rt, err, image, none, block, 1, bytes);
                 return;
             }
-            past_end(block, count);
+            past_end(err, block, count);
         }
-        Task::Export => read(image, none, 0, count, bytes),
-        Task::Import => write(image, none, 0, count, bytes),
+        Task::Export => read(rt, err, image, none, 0, count, bytes),
+        Task::Import => write(rt, err, image, none, 0, count, bytes),
     }
 }
 
 // Written back where bytes changed.
-fn close(task: Task, fd: i32, image: &[u8]) {
+fn close<F: Read + Write + Seek + Drop>(
+    rt: &impl Env,
+    err: &impl Print,
+    task: Task,
+    file: Option<F>,
+    image: &[u8],
+) {
     if updates(task) {
-        kept(b"blocks", 2, fd, image);
-        return;
+        kept(rt, err, b"blocks", 2, file, image);
     }
-    libc::close(fd);
 }
 
-fn perform_on(task: Task, fd: i32, image: &mut [u8], bytes: &mut [u8]) {
-    let mut none = [0u8; 1];
-    let empty: &mut [u8] = &mut none;
-    perform(task, image, &mut empty[0..0], bytes);
-    close(task, fd, image);
+fn perform_on<R: Env + Input + Print, F: Read + Write + Seek + Drop>(
+    rt: &R,
+    err: &impl Print,
+    task: Task,
+    file: Option<F>,
+    image: &mut [u8],
+    bytes: &mut [u8],
+) {
+    perform(rt, err, task, image, &mut [], bytes);
+    close(rt, err, task, file, image);
 }
 
 // The image that the second word names, with both buffers as long as the largest.
-pub fn with_image(task: Task, image: &mut [u8], bytes: &mut [u8]) {
-    let file = image_of(b"blocks", 2, updates(task), image);
-    let n = file.length;
-    if file.good {
-        if n <= image.len() {
-            perform_on(task, file.fd, &mut image[0..n], bytes);
-        }
+pub fn with_image<R: Files + Env + Input + Print>(
+    rt: &R,
+    err: &impl Print,
+    task: Task,
+    image: &mut [u8],
+    bytes: &mut [u8],
+) {
+    let found = image_of(rt, err, b"blocks", 2, updates(task), image);
+    let n = found.length;
+    if found.good {
+        perform_on(rt, err, task, found.file, &mut image[0..n], bytes);
     }
 }
