@@ -8,22 +8,25 @@ SEED ?= 1
 
 demo:
 	@echo "proving and building replay, some minutes the first time"
-	@rt check replay >/dev/null
+	@tests/program replay
 	@demo/run
 
 test:
 	.ci/run
 
+# the library is proved as the crate capi and as capi_c, which has its exports, and stands as target/libcapi.a
 library:
-	rt staticlib capi >/dev/null
+	cd crates/capi_c && rt lib >/dev/null
+	mkdir -p target
+	cp crates/capi_c/out/libcapi_c.a target/libcapi.a
 
 fuzz: library
-	LIB=target/staticlib/libcapi.a tests/fuzz/run $(CALLS) $(SEED)
+	LIB=target/libcapi.a tests/fuzz/run $(CALLS) $(SEED)
 
 bench: library
-	@LIB=target/staticlib/libcapi.a bench/run
+	@LIB=target/libcapi.a bench/run
 
-# about half a minute for each, one after the other; not part of the gate
+# some minutes for each, one after the other; not part of the gate
 mutants:
-	@rt check demands answers >/dev/null
+	@cd crates/answers && rt check >/dev/null
 	@tests/mutants/run $(NAMES)

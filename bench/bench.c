@@ -1,6 +1,6 @@
 /* Whole images read, written and formatted by DMA, on the library and on the model, by one and the same host: seek, then
  * each cylinder in one command (MT where there are two sides; Format by tracks), TC with the last byte; FIFO on, threshold 8.
- * The library is as the kit compiles it, at -O3; the model and this host have -O3 too, by another compiler. Time is the
+ * The library is as the kit compiles it; the model and this host have -O3, by another compiler. Time is the
  * processor's, the best of a few runs; DMA cycles and port accesses are in it: a read or write has a cycle for each tick,
  * a format few. Then some blocks of each image by the block service, which steps out and in again for every block. */
 #include <math.h>
