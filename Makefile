@@ -16,9 +16,7 @@ test:
 
 # the library is proved as the crate capi and as capi_c, which has its exports, and stands as target/libcapi.a
 library:
-	cd crates/capi_c && rt lib >/dev/null
-	mkdir -p target
-	cp crates/capi_c/out/libcapi_c.a target/libcapi.a
+	@tests/library target/libcapi.a
 
 fuzz: library
 	LIB=target/libcapi.a tests/fuzz/run $(CALLS) $(SEED)
