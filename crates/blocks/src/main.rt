@@ -14,7 +14,6 @@ use command::{Command, asked, number, usage};
 use files::image::image_buffer;
 use make::make;
 use script::decimal::Decimal;
-use std::alloc::AllocError;
 use std::env::Env;
 use std::fs::Files;
 use task::{Task, with_image};
@@ -59,10 +58,9 @@ fn obey<R: Files + Env + Input + Print>(
     }
 }
 
-fn main(rt: HostRuntime) -> Result<(), AllocError> {
+fn main(rt: HostRuntime) {
     let err = rt.stderr();
-    let mut image = image_buffer(rt.alloc())?;
-    let mut bytes = image_buffer(rt.alloc())?;
+    let mut image = image_buffer();
+    let mut bytes = image_buffer();
     obey(&rt, &err, asked(&rt), &mut image, &mut bytes);
-    Ok(())
 }

@@ -1,10 +1,9 @@
 // An image file: opened, and read whole.
-ghost use Rattle.std.specs.Prelude.{◌≡◌, ◌≤◌, length, vec_len, IfOk};
+ghost use Rattle.std.specs.Prelude.{◌≡◌, ◌≤◌, length};
 
 use crate::fault::{name_fault, system_fault};
 use crate::load::load;
 use crate::word::PATH;
-use std::alloc::{AllocError, Global};
 use std::env::{Env, FillError};
 use std::fs::{Files, OpenOptions};
 use std::io;
@@ -46,10 +45,10 @@ pub const NOT_UTF8: &[u8] = b"a name that is not UTF-8";
 pub const NAME: &[u8] = b"the name of an image";
 
 // The most bytes of an image, 2 MiB.
-pub fn image_buffer(alloc: Global) -> Result<Vec<u8>, AllocError>
-    ensures { IfOk result (λ v. vec_len v ≡ 2097152) }
+pub fn image_buffer() -> [u8; 2097152]
+    ensures { 2097152 ≡ length result }
 {
-    Ok(vec![in alloc; 0u8; 2097152]?)
+    [0; 2097152]
 }
 
 fn loaded<F: Read + Drop>(

@@ -5,9 +5,13 @@ use std::env::Env;
 use std::io;
 use std::io::{Read, Seek, SeekFrom, Write};
 
+// Past the largest image nothing is written: EFBIG.
 fn put(file: &mut (impl Write + Seek), at: usize, bytes: &[u8]) -> io::Result<()> {
-    file.seek(SeekFrom::Start(at as u64))?;
-    file.write_all(bytes)
+    if at <= 2097152 {
+        file.seek(SeekFrom::Start(at as u64))?;
+        return file.write_all(bytes);
+    }
+    Err(io::Error::from_raw_os_error(27))
 }
 
 // The bytes from start to stop of a part that stands at a place of the file.
@@ -43,8 +47,12 @@ fn keep_part(file: &mut (impl Write + Seek), at: usize, old: &[u8], new: &[u8]) 
     Ok(())
 }
 
-// A part of the file that stands at a place of it: how many bytes were looked at and kept, 0 at the file's end.
+// A part of the file that stands at a place of it: how many bytes were looked at and kept, 0 at the file's end and past
+// the largest image.
 fn keep_some(file: &mut (impl Read + Write + Seek), at: usize, new: &[u8]) -> io::Result<usize> {
+    if 2097152 < at {
+        return Ok(0);
+    }
     let mut old = [0u8; 4096];
     file.seek(SeekFrom::Start(at as u64))?;
     let n = file.read(&mut old)?;

@@ -10,7 +10,6 @@ use files::fault::{fault, output_fault};
 use files::image::{image_buffer, image_of};
 use files::word::argument_count;
 use report::report;
-use std::alloc::AllocError;
 use std::env::Env;
 use std::fs::Files;
 use std::io;
@@ -28,28 +27,31 @@ fn judge_file(
     Ok(())
 }
 
+// Whether each line was taken: one that was not keeps no other file from being judged.
 fn judge_files(
     rt: &(impl Files + Env + Print),
     err: &impl Print,
     count: usize,
     bytes: &mut [u8],
-) -> io::Result<()> {
+) -> bool {
+    let mut whole = true;
     for k in 1..count {
-        judge_file(rt, err, k, bytes)?;
+        if judge_file(rt, err, k, bytes).is_err() {
+            whole = false;
+        }
     }
-    Ok(())
+    whole
 }
 
-fn main(rt: HostRuntime) -> Result<(), AllocError> {
+fn main(rt: HostRuntime) {
     let err = rt.stderr();
     let count = argument_count(&rt);
     if count < 2 {
         fault(&err, b"usage: judge FILE ..\n");
-        return Ok(());
+        return;
     }
-    let mut bytes = image_buffer(rt.alloc())?;
-    if judge_files(&rt, &err, count, &mut bytes).is_err() {
+    let mut bytes = image_buffer();
+    if !judge_files(&rt, &err, count, &mut bytes) {
         output_fault(&err, b"judge");
     }
-    Ok(())
 }

@@ -16,7 +16,6 @@ use files::image::{Image, image_buffer};
 use files::word::argument_count;
 use output::Output;
 use run::play_lines;
-use std::alloc::AllocError;
 use std::env::Env;
 use std::fs::Files;
 
@@ -71,10 +70,9 @@ fn play_files<R: Files + Env + Input + Print>(
     }
 }
 
-fn main(rt: HostRuntime) -> Result<(), AllocError> {
+fn main(rt: HostRuntime) {
     let err = rt.stderr();
-    let mut a = image_buffer(rt.alloc())?;
-    let mut b = image_buffer(rt.alloc())?;
+    let mut a = image_buffer();
+    let mut b = image_buffer();
     play_files(&rt, &err, &mut a, &mut b);
-    Ok(())
 }
