@@ -1,5 +1,5 @@
 // An image file: opened, and read whole.
-ghost use Rattle.std.specs.Prelude.{◌≡◌, ◌≤◌, length};
+ghost use Rattle.std.specs.Prelude.{◌≡◌, ◌≤◌, length, None, true, false};
 
 use crate::fault::{name_fault, system_fault};
 use crate::load::load;
@@ -19,7 +19,9 @@ pub struct Image<F> {
 
 impl<F> Image<F> {
     pub fn none() -> Image<F>
-        ensures { result.length ≡ 0 }
+        ensures file { result.file ≡ None }
+        ensures length { result.length ≡ 0 }
+        ensures good { result.good ≡ true }
     {
         Image {
             file: None,
@@ -29,7 +31,9 @@ impl<F> Image<F> {
     }
 
     fn bad() -> Image<F>
-        ensures { result.length ≡ 0 }
+        ensures file { result.file ≡ None }
+        ensures length { result.length ≡ 0 }
+        ensures good { result.good ≡ false }
     {
         Image {
             file: None,

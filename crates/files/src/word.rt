@@ -1,18 +1,16 @@
 // Words of the command line.
-ghost use Rattle.std.specs.Prelude.{◌≤◌, length};
+ghost use Rattle.std.specs.Prelude.{◌≡◌, ◌≤◌, ◌↔◌, length, IsTrue};
 
-use script::change::stretch_end;
 use std::env::{Env, FillError};
 
 // The bytes of the longest word that is looked at, as long as any path.
 pub const PATH: usize = 4096;
 
 // Whether two words are the same.
-pub fn same(p: &[u8], q: &[u8]) -> bool {
-    if p.len() == q.len() {
-        return stretch_end(p, q, 0, true) == p.len();
-    }
-    false
+pub fn same(p: &[u8], q: &[u8]) -> bool
+    ensures { IsTrue result ↔ (p.now ≡ q.now) }
+{
+    p == q
 }
 
 // How many words the command line has, the program's own among them.
