@@ -24,7 +24,7 @@ fuzz: library
 bench: library
 	@LIB=target/libcapi.a bench/run
 
-# some minutes for each, one after the other; not part of the gate
+# about two minutes for each, one after the other; not part of the gate
 mutants:
 	@cd crates/answers && rt check >/dev/null
 	@tests/mutants/run $(NAMES)
