@@ -30,7 +30,7 @@ use Rattle.engine.specs.Step.{stage_of, work_step}
 use Rattle.sectors.specs.Track.{mark_place, data_place, next_slot}
 use Rattle.sectors.specs.Write.{underrun, put_of, dry_of, store_of}
 use Rattle.engine.proofs.EasyLaws.{follow_normal_had_tc}
-use Rattle.image.specs.declared.lent.Effect.{Effect}
+use Rattle.image.specs.Lent.{Effect}
 use Rattle.image.specs.declared.slot.Id.{Id}
 use Rattle.image.specs.Layout.{size_of, offset_of}
 use Rattle.image.specs.Lent.{stored_as}

@@ -1,6 +1,7 @@
 -- What every reached record has beside `Good`: room for nine command bytes, as the array's type has it, a stage that
 -- suits its transfer, and as many results as its phase says.
 -- Assumes nothing.
+use Rattle.std.specs.Prelude.{None, Some}
 use Prim.Native.Nat.{ℕ, ◌<◌}
 use native.Mathlib.Omega.{arith}
 use mathlib.Core.Bool.{Bool, true, false, not, ◌&&◌, cond, false≢true}
@@ -13,8 +14,7 @@ use Rattle.image.proofs.TestLaws.{by_test}
 use Rattle.image.specs.Lent.{pick_of}
 use Rattle.chip.specs.declared.fifo.Fifo.{Fifo}
 use Rattle.drive.specs.declared.Drive.{Drive}
-use Rattle.image.specs.declared.disk.Disk.{Disk}
-use Rattle.image.specs.declared.disk.Disk.TheVariants.{Absent, Present}
+use Rattle.image.specs.Disk.{Disk}
 use Rattle.image.specs.declared.layout.Geometry.{Geometry}
 use Rattle.image.specs.declared.slot.Id.{Id}
 use Rattle.image.specs.Disk.{disk_in}
@@ -117,7 +117,7 @@ start_unlocked (Move transfer id) site fifo b = moving_unlocked transfer.pass tr
 start_unlocked (job.Format plan) site fifo b = λ h. b
 
 begin_unlocked : (order : Order) (g : Geometry) (head : ℕ) (fifo : Fifo)
-    → ThenUnlocked (begin_of order (Present g) head fifo).then
+    → ThenUnlocked (begin_of order (Some g) head fifo).then
 unfolding begin_of gate_of entered_of end_of
 begin_unlocked order g head fifo =
     by_test (not (has_track g head order.side))
@@ -129,12 +129,12 @@ begin_unlocked order g head fifo =
     (λ m. start_unlocked order.job _ fifo u)))
 
 first_sound : (order : Order) (disk : Disk) (head : ℕ) (fifo : Fifo) (efifo : Bool) → ProperJob order.job
-    → ((g : Geometry) → disk ≡ Present g → 0 < g.slots) → ThenFit (begin_of order disk head fifo).then
+    → ((g : Geometry) → disk ≡ Some g → 0 < g.slots) → ThenFit (begin_of order disk head fifo).then
 unfolding begin_of gate_of entered_of end_of
-first_sound order Absent head fifo efifo p some = tt
-first_sound order (Present g) head fifo efifo p some =
-    together (begin_of order (Present g) head fifo).then g (some g refl) ((begin_kept order (Present g) head fifo efifo).stage refl)
-    (begin_falls g [] head fifo order.drive order.side (some g refl) order refl refl p (Present g) (inr refl)
+first_sound order None head fifo efifo p some = tt
+first_sound order (Some g) head fifo efifo p some =
+    together (begin_of order (Some g) head fifo).then g (some g refl) ((begin_kept order (Some g) head fifo efifo).stage refl)
+    (begin_falls g [] head fifo order.drive order.side (some g refl) order refl refl p (Some g) (inr refl)
     ).proper
     (begin_unlocked order g head fifo)
 
@@ -153,15 +153,15 @@ later_sound work disk head img fifo efifo fifothr s =
     together t (site_of work).disk s.slots (k.stage s.suits) p (kept_unlocked t work s.unlocked k.way p)
 
 -- a disk that is seen has slots
-seen_slots : (dor drive : ℕ) (img : List ℕ) (g : Geometry) → seen_of dor drive img ≡ Present g → 0 < g.slots
+seen_slots : (dor drive : ℕ) (img : List ℕ) (g : Geometry) → seen_of dor drive img ≡ Some g → 0 < g.slots
 unfolding seen_of
 seen_slots dor drive img g = go (motor_in dor drive)
   where
     there : Disk → Bool
-    there Absent = false
-    there (Present g) = true
+    there None = false
+    there (Some g) = true
 
-    go : (t : Bool) → cond t (disk_in img) Absent ≡ Present g → 0 < g.slots
+    go : (t : Bool) → cond t (disk_in img) None ≡ Some g → 0 < g.slots
     go true e = omega (arith, (present_fits img g e).range.slots.0)
     go false e = absurd (false≢true (ap there e))
 

@@ -1,14 +1,13 @@
 -- Only a Write or a Format at work stores (01 Calls, 01 Data commands).
 -- Assumes nothing.
+use Rattle.std.specs.Prelude.{None, Some}
 use Prim.Native.Nat.{ℕ, ◌%◌}
 use mathlib.Core.Bool.{true, false, not, ◌&&◌}
 use mathlib.Core.List.{List}
 use mathlib.Core.Path.{◌≡◌, refl}
 use lib.Dec.{eqb}
 use Rattle.image.proofs.TestLaws.{by_test}
-use Rattle.image.specs.declared.disk.Disk.{Disk}
-use Rattle.image.specs.declared.disk.Disk.TheVariants.{Absent, Present}
-use Rattle.image.specs.declared.lent.Effect.TheVariants.{Nothing}
+use Rattle.image.specs.Disk.{Disk}
 use Rattle.image.specs.Lent.{pick_of, stored_as}
 use Rattle.chip.specs.declared.fifo.Fifo.{Fifo}
 use Rattle.sectors.specs.declared.order.Job.{Job}
@@ -40,30 +39,30 @@ use Rattle.answers.proofs.FitLaws.{fit_suited, fit_real}
 
 -- the first tick does its tests and stores nothing, whatever the command
 moving_nothing : (p : Pass) (transfer : Transfer) (id : Id) (site : Site) (fifo : Fifo)
-    → (moving_of p transfer id site fifo).effect ≡ Nothing
+    → (moving_of p transfer id site fifo).effect ≡ None
 unfolding moving_of
 moving_nothing Read transfer id site fifo = refl
 moving_nothing Write transfer id site fifo = refl
 
-start_nothing : (job : Job) (site : Site) (fifo : Fifo) → (start_job job site fifo).effect ≡ Nothing
+start_nothing : (job : Job) (site : Site) (fifo : Fifo) → (start_job job site fifo).effect ≡ None
 unfolding start_job
 start_nothing Identify site fifo = refl
 start_nothing (Move transfer id) site fifo = moving_nothing transfer.pass transfer id site fifo
 start_nothing (Format plan) site fifo = refl
 
 entered_nothing : (disk : Disk) (job : Job) (drive side head : ℕ) (fifo : Fifo)
-    → (entered_of (gate_of disk job side head) job drive side head fifo).effect ≡ Nothing
+    → (entered_of (gate_of disk job side head) job drive side head fifo).effect ≡ None
 unfolding gate_of entered_of end_of
-entered_nothing Absent job drive side head fifo = refl
-entered_nothing (Present g) job drive side head fifo =
-    by_test (not (has_track g head side)) (λ gate. (entered_of gate job drive side head fifo).effect ≡ Nothing) _ _
+entered_nothing None job drive side head fifo = refl
+entered_nothing (Some g) job drive side head fifo =
+    by_test (not (has_track g head side)) (λ gate. (entered_of gate job drive side head fifo).effect ≡ None) _ _
     (λ t. refl)
-    (λ t. by_test (changes job && g.protect) (λ gate. (entered_of gate job drive side head fifo).effect ≡ Nothing) _ _
+    (λ t. by_test (changes job && g.protect) (λ gate. (entered_of gate job drive side head fifo).effect ≡ None) _ _
     (λ u. refl)
-    (λ u. by_test (misplanned job g) (λ gate. (entered_of gate job drive side head fifo).effect ≡ Nothing) _ _
+    (λ u. by_test (misplanned job g) (λ gate. (entered_of gate job drive side head fifo).effect ≡ None) _ _
     (λ m. refl) (λ m. start_nothing job _ fifo)))
 
-pub begin_nothing : (order : Order) (disk : Disk) (head : ℕ) (fifo : Fifo) → (begin_of order disk head fifo).effect ≡ Nothing
+pub begin_nothing : (order : Order) (disk : Disk) (head : ℕ) (fifo : Fifo) → (begin_of order disk head fifo).effect ≡ None
 unfolding begin_of
 begin_nothing order disk head fifo = entered_nothing disk order.job order.drive order.side head fifo
 
@@ -78,7 +77,7 @@ not_from (Moving site task stage) n = go task.transfer.pass n
 not_from (Formatting site plan form) n = absurd (n tt)
 
 in_phase : (p : Phase) (a b : List ℕ) (c : Controller) → suited_in p ≡ true → (Storing p → ⊥)
-    → (decide_in p a b c).effect ≡ Nothing
+    → (decide_in p a b c).effect ≡ None
 unfolding decide_in still_of start_tick work_tick decided_of
 in_phase Idle a b c s n = refl
 in_phase (Gathering entry) a b c s n = refl
@@ -91,15 +90,15 @@ in_phase (Sensing unit) a b c s n = refl
 in_phase (Answering loud) a b c s n = refl
 
 ruled_nothing : (a b : List ℕ) (c : Controller) → suited_in c.phase ≡ true → (Storing c.phase → ⊥)
-    → (ruled_of a b c).effect ≡ Nothing
+    → (ruled_of a b c).effect ≡ None
 unfolding ruled_of decide_of still_of
 ruled_nothing a b c s n =
-    by_test (valid_of c) (λ (x : Decision). x.effect ≡ Nothing) _ _
-    (λ v. by_test (held_in c.registers.dor) (λ (x : Decision). x.effect ≡ Nothing) _ _ (λ t. refl)
+    by_test (valid_of c) (λ (x : Decision). x.effect ≡ None) _ _
+    (λ v. by_test (held_in c.registers.dor) (λ (x : Decision). x.effect ≡ None) _ _ (λ t. refl)
     (λ t. in_phase c.phase a b (stepped_of a b c) s n))
     (λ v. refl)
 
-pub nothing_stored : (k d : ℕ) (img : List ℕ) → stored_as d k Nothing img ≡ img
+pub nothing_stored : (k d : ℕ) (img : List ℕ) → stored_as d k None img ≡ img
 nothing_stored k d img = by_test (eqb d k) (λ (l : List ℕ). l ≡ img) _ _ (λ t. refl) (λ t. refl)
 
 any_record : (c : Controller) → suited_in c.phase ≡ true → (Storing c.phase → ⊥) → (a b : List ℕ) (k : ℕ)

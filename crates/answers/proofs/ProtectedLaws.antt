@@ -1,5 +1,6 @@
 -- A protected image never changes (01 Data commands, first tick and "header changed later").
 -- Assumes nothing.
+use Rattle.std.specs.Prelude.{None}
 use Prim.Native.Nat.{ℕ, ◌%◌}
 use mathlib.Core.Bool.{Bool, true, false, and-false}
 use mathlib.Core.List.{List, [], ◌∷◌}
@@ -7,10 +8,9 @@ use mathlib.Core.Path.{◌≡◌, refl, sym, ◌∙◌, ap, subst}
 use lib.Dec.{eqb}
 use borrow.Author.Tests.{eqb-true}
 use Rattle.image.proofs.TestLaws.{by_test}
-use Rattle.image.specs.declared.disk.Disk.{Disk}
+use Rattle.image.specs.Disk.{Disk}
 use Rattle.image.specs.declared.layout.Geometry.{Geometry}
-use Rattle.image.specs.declared.lent.Effect.{Effect}
-use Rattle.image.specs.declared.lent.Effect.TheVariants.{Nothing}
+use Rattle.image.specs.Lent.{Effect}
 use Rattle.image.specs.Layout.{same_of}
 use Rattle.image.specs.Lent.{pick_of, stored_in}
 use Rattle.chip.specs.declared.fifo.Fifo.{Fifo}
@@ -36,7 +36,7 @@ use Rattle.demands.proofs.QuietLaws.{quiet_real}
 use Rattle.answers.proofs.FitLaws.{FitWork, fit_real, real_after}
 use Rattle.answers.proofs.OnlyWritesLaws.{only_writes}
 
-lost_nothing : (work : Work) (head : ℕ) → (lost_of work head).effect ≡ Nothing
+lost_nothing : (work : Work) (head : ℕ) → (lost_of work head).effect ≡ None
 unfolding lost_of no_id_of move_fails move_end format_end end_of
 lost_nothing (Identifying site slot passes) head = refl
 lost_nothing (Moving site task stage) head = refl
@@ -52,12 +52,12 @@ seen_other dor drive img met l p =
     (λ t. refl)
 
 locked_nothing : (work : Work) (dor head : ℕ) (img : List ℕ) (fifo : Fifo) (efifo : Bool) (fifothr : ℕ) → Locked img
-    → FitWork work → (go_on_of work (seen_of dor (drive_of work) img) head img fifo efifo fifothr).effect ≡ Nothing
+    → FitWork work → (go_on_of work (seen_of dor (drive_of work) img) head img fifo efifo fifothr).effect ≡ None
 unfolding go_on_of
 locked_nothing work dor head img fifo efifo fifothr l s = go (from_host (flow_of work)) refl
   where
     go : (t : Bool) → from_host (flow_of work) ≡ t
-        → (go_on_of work (seen_of dor (drive_of work) img) head img fifo efifo fifothr).effect ≡ Nothing
+        → (go_on_of work (seen_of dor (drive_of work) img) head img fifo efifo fifothr).effect ≡ None
     go false f =
         (go_on_kept work (seen_of dor (drive_of work) img) head img fifo efifo fifothr).stores s.suits f
     go true f =
@@ -78,7 +78,7 @@ module _ (c : Controller) (r : Real c) (k : ℕ) (a b : List ℕ) (l : Locked (p
           → (go_on_of work (seen_of c.registers.dor (drive_of work) (pick_of (drive_of work) a b))
           (drive_at (drive_of work % 4) c.drives).head (pick_of (drive_of work) a b) c.fifo c.registers.efifo
           c.registers.fifothr).effect
-          ≡ Nothing
+          ≡ None
       none q =
           locked_nothing work c.registers.dor (drive_at (drive_of work % 4) c.drives).head
           (pick_of (drive_of work) a b) c.fifo c.registers.efifo c.registers.fifothr

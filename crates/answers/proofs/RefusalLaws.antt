@@ -2,6 +2,7 @@
 -- Assumes nothing.
 use Prim.Native.Nat.{ℕ, zero, suc, ◌+◌, ◌/◌, ◌%◌, ◌<◌, ◌≤◌}
 use native.Mathlib.Omega.{arith}
+use Rattle.std.specs.Prelude.{Option}
 use mathlib.Core.Bool.{Bool, true, false, not, ◌&&◌, cond, true≢false, false≢true}
 use mathlib.Core.List.{List}
 use mathlib.Core.Logic.{◌⊎◌, inl, inr, ⊎_elim}
@@ -298,7 +299,7 @@ module _ (c : Controller) where
     told_read : (offset : ℕ) → Told (reads offset) c (read_reg (port_of offset) c)
     unfolding port_of read_reg
     told_read offset =
-        let P : Port → Type 0 = λ p. Told (reads offset) c (read_reg p c) in
+        let P : Option Port → Type 0 = λ p. Told (reads offset) c (read_reg p c) in
         by_test (eqb offset 2) P _ _
         (λ e. passed sane (read_passes offset 2 (eqb-true _ 2 e) (omega arith) (omega arith) (λ q. omega arith)
         (λ q. omega arith))
@@ -333,7 +334,7 @@ module _ (c : Controller) where
     told_write : (offset byte : ℕ) → Told (writes offset byte) c (write_reg (port_of offset) byte c)
     unfolding port_of write_reg
     told_write offset byte =
-        let P : Port → Type 0 = λ p. Told (writes offset byte) c (write_reg p byte c) in
+        let P : Option Port → Type 0 = λ p. Told (writes offset byte) c (write_reg p byte c) in
         by_test (eqb offset 2) P _ _
         (λ e. passed sane (write_passes offset byte 2 (eqb-true _ 2 e) (omega arith) (omega arith) (λ q. omega arith)
         (λ q. omega arith)) _ _ refl (λ _. refl) refl)

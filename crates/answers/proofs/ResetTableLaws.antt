@@ -1,5 +1,6 @@
 -- Reset's table of what goes and what stays, by DOR and by DSR (01 Registers).
 -- Assumes nothing.
+use Rattle.std.specs.Prelude.{None}
 use Prim.Native.Nat.{ℕ, ◌/◌, ◌%◌, ◌<◌}
 use native.Mathlib.Omega.{arith}
 use mathlib.Core.Bool.{Bool, true, false, and-false}
@@ -8,7 +9,6 @@ use mathlib.Core.Path.{◌≡◌, refl, ◌∙◌, ap}
 use lib.Dec.{eqb}
 use borrow.Author.Tests.{eq-eqb, ne_eqb}
 use Rattle.image.proofs.TestLaws.{by_test}
-use Rattle.image.specs.declared.lent.Effect.TheVariants.{Nothing}
 use Rattle.image.specs.Lent.{stored_as}
 use Rattle.drive.specs.declared.Drive.{Drive}
 use Rattle.drive.specs.Drive.{reported_of}
@@ -199,5 +199,5 @@ held_tick c a b = record {
   images = λ h k img. ap (λ (d : Decision). stored_as d.drive k d.effect img) (held_still a b c h) ∙ still k img;
 }
   where
-    still : (k : ℕ) (img : List ℕ) → stored_as 0 k Nothing img ≡ img
+    still : (k : ℕ) (img : List ℕ) → stored_as 0 k None img ≡ img
     still k img = by_test (eqb 0 k) (λ (l : List ℕ). l ≡ img) _ _ (λ _. refl) (λ _. refl)

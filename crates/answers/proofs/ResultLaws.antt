@@ -1,5 +1,7 @@
 -- Result bytes by command and cause of end (01 Data commands): each row from the engine's definition at that tick.
 -- Assumes nothing.
+use Rattle.std.specs.Prelude.{None, Some}
+use Rattle.image.specs.Lent.{put_at}
 use Prim.Native.Nat.{ℕ, ◌+◌, ◌<◌, ◌≤◌}
 use native.Mathlib.Omega.{arith}
 use mathlib.Core.Bool.{Bool, beq, true, false, ◌&&◌, ◌||◌, cond, and-false, or-true}
@@ -40,11 +42,9 @@ use Rattle.sectors.specs.Search.{second_pass, bare_found, looked_of, search_of}
 use Rattle.engine.specs.Step.{drive_of, site_of, lost_of, stage_of, work_step, go_on_of}
 use Rattle.sectors.specs.Track.{has_track, stays_of, mark_place, data_place}
 use Rattle.sectors.specs.Write.{underrun, await_of, put_of, dry_of, written_of, store_of, written_mark}
-use Rattle.image.specs.declared.disk.Disk.{Disk}
-use Rattle.image.specs.declared.disk.Disk.TheVariants.{Absent, Present}
+use Rattle.image.specs.Disk.{Disk}
 use Rattle.image.specs.declared.layout.Geometry.{Geometry}
-use Rattle.image.specs.declared.lent.Effect.{Effect}
-use Rattle.image.specs.declared.lent.Effect.TheVariants.{Nothing, Store}
+use Rattle.image.specs.Lent.{Effect}
 use Rattle.image.specs.declared.mark.Mark.{Mark}
 use Rattle.image.specs.declared.mark.Mark.TheVariants.{NoId, Data, NoData}
 use Rattle.image.specs.declared.slot.Id.{Id}
@@ -94,8 +94,8 @@ cannot false f = refl
 
 lost_stays : (d : Disk) (met : Geometry) → Lost d met → stays_of d met ≡ false
 unfolding stays_of
-lost_stays Absent met l = refl
-lost_stays (Present g) met l = cannot _ (λ t. l (same_true g met t))
+lost_stays None met l = refl
+lost_stays (Some g) met l = cannot _ (λ t. l (same_true g met t))
 
 module _ (c : Controller) (a b : List ℕ) where
   -- an end, at the record
@@ -158,21 +158,21 @@ given_first (Format plan) drive side head = refl
 -- each test's end
 abbrev fails_at : Order → ℕ → ℕ → Step
 fails_at order head st1 =
-    end_of false order.drive order.side st1 0x00 (first_id order.job order.drive order.side head) Nothing
+    end_of false order.drive order.side st1 0x00 (first_id order.job order.drive order.side head) None
 
 module _ (order : Order) (head : ℕ) (fifo : Fifo) where
-  begin_empty : begin_of order Absent head fifo ≡ fails_at order head 0x01
+  begin_empty : begin_of order None head fifo ≡ fails_at order head 0x01
   unfolding begin_of gate_of entered_of
   begin_empty = rw (given_first order.job order.drive order.side head)
 
   module _ (g : Geometry) where
-    begin_no_track : NoTrack g head order.side → begin_of order (Present g) head fifo ≡ fails_at order head 0x01
+    begin_no_track : NoTrack g head order.side → begin_of order (Some g) head fifo ≡ fails_at order head 0x01
     unfolding begin_of gate_of entered_of
     begin_no_track h =
         rw (no_track_false g head order.side h, given_first order.job order.drive order.side head)
 
     begin_protected : OnTrack g head order.side → ChangesJob order.job → g.protect ≡ true
-        → begin_of order (Present g) head fifo ≡ fails_at order head 0x02
+        → begin_of order (Some g) head fifo ≡ fails_at order head 0x02
     unfolding begin_of gate_of entered_of
     begin_protected h w p =
         rw (
@@ -183,7 +183,7 @@ module _ (order : Order) (head : ℕ) (fifo : Fifo) where
         )
 
     begin_misplanned : (plan : Plan) → OnTrack g head order.side → order.job ≡ Format plan → g.protect ≡ false
-        → Misplanned plan g → begin_of order (Present g) head fifo ≡ fails_at order head 0x04
+        → Misplanned plan g → begin_of order (Some g) head fifo ≡ fails_at order head 0x04
     unfolding begin_of gate_of entered_of
     begin_misplanned plan h j p m =
         simp (
@@ -197,15 +197,15 @@ module _ (order : Order) (head : ℕ) (fifo : Fifo) where
 first_ends : FirstEnds
 first_ends = record {
   empty = λ c order a b before e.
-      result c a b _ false _ _ _ _ _ _ (first_is c a b order _ Absent before e (begin_empty order _ c.fifo));
+      result c a b _ false _ _ _ _ _ _ (first_is c a b order _ None before e (begin_empty order _ c.fifo));
   no_track = λ c order a b g before e h.
-      result c a b _ false _ _ _ _ _ _ (first_is c a b order _ (Present g) before e
+      result c a b _ false _ _ _ _ _ _ (first_is c a b order _ (Some g) before e
       (begin_no_track order _ c.fifo g h));
   protected = λ c order a b g before e h w p.
-      result c a b _ false _ _ _ _ _ _ (first_is c a b order _ (Present g) before e
+      result c a b _ false _ _ _ _ _ _ (first_is c a b order _ (Some g) before e
       (begin_protected order _ c.fifo g h w p));
   misplanned = λ c order a b g plan before e h j p m.
-      result c a b _ false _ _ _ _ _ _ (first_is c a b order _ (Present g) before e
+      result c a b _ false _ _ _ _ _ _ (first_is c a b order _ (Some g) before e
       (begin_misplanned order _ c.fifo g plan h j p m));
 }
 
@@ -245,7 +245,7 @@ true_sought slot site task e =
 abbrev failing : ℕ → ℕ → Site → Task → Step
 failing st1 st2 site task =
     end_of false site.drive site.side (late_bit task.late + st1) (other_bit task.other + st2) task.id
-    Nothing
+    None
 
 -- and one for which a byte was late
 abbrev failing_late : Effect → Site → Task → Step
@@ -297,7 +297,7 @@ module _ (c : Controller) (site : Site) (task : Task) (a b : List ℕ) where
 
   fails_by : (stage : Stage) (st1 st2 : ℕ) → During c (Moving site task stage) a b
       → staged c site task a b stage ≡ failing st1 st2 site task → FailsWith st1 st2 c site task a b
-  fails_by stage st1 st2 during e = ends_by stage false _ _ task.id Nothing during e
+  fails_by stage st1 st2 during e = ends_by stage false _ _ task.id None during e
 
   late_by : (stage : Stage) (effect : Effect) → During c (Moving site task stage) a b
       → staged c site task a b stage ≡ failing_late effect site task → FailsLate c site task a b
@@ -367,22 +367,22 @@ module _ (c : Controller) (site : Site) (task : Task) (a b : List ℕ) where
   overrun_is : (sector : Sector) (done : ℕ) (last : Bool) → c.fifo.tc ≡ false
       → capacity_of c.registers.efifo ≤ c.fifo.count → sector_over site done ≡ last
       → staged c site task a b (Reading sector done)
-      ≡ moves_of (cond last (Draining sector 0) (Reading sector (done + 1))) site (tardy task) shut Nothing
+      ≡ moves_of (cond last (Draining sector 0) (Reading sector (done + 1))) site (tardy task) shut None
   unfolding stage_of read_of overrun read_on
   overrun_is sector done true t h l = rw (t, le-leb (capacity_of c.registers.efifo) c.fifo.count h, l)
   overrun_is sector done false t h l = rw (t, le-leb (capacity_of c.registers.efifo) c.fifo.count h, l)
 
   not_taken : (sector : Sector) (looks : ℕ) → 0 < c.fifo.count → 63 ≤ looks
-      → staged c site task a b (Draining sector looks) ≡ failing_late Nothing site task
+      → staged c site task a b (Draining sector looks) ≡ failing_late None site task
   unfolding stage_of drain_of
   not_taken sector looks h l =
-      rw (ne_eqb c.fifo.count 0 (λ e. omega arith), le-leb 63 looks l) (late_is site task Nothing)
+      rw (ne_eqb c.fifo.count 0 (λ e. omega arith), le-leb 63 looks l) (late_is site task None)
 
   late_read : (sector : Sector) (looks : ℕ) → c.fifo.count ≡ 0 → sector.broken ≡ false → task.late ≡ true
-      → staged c site task a b (Draining sector looks) ≡ failing_late Nothing site task
+      → staged c site task a b (Draining sector looks) ≡ failing_late None site task
   unfolding stage_of drain_of drained_of
   late_read sector looks h k l =
-      simp (eq-eqb c.fifo.count 0 h, k, l) (late_is site task Nothing)
+      simp (eq-eqb c.fifo.count 0 h, k, l) (late_is site task None)
 
   data_error : (sector : Sector) (looks : ℕ) → c.fifo.count ≡ 0 → sector.broken ≡ true
       → staged c site task a b (Draining sector looks) ≡ failing 0x20 0x20 site task
@@ -391,7 +391,7 @@ module _ (c : Controller) (site : Site) (task : Task) (a b : List ℕ) where
 
   other_kind : (sector : Sector) (looks : ℕ) → c.fifo.count ≡ 0 → sector.broken ≡ false → task.late ≡ false
       → sector.other ≡ true → staged c site task a b (Draining sector looks)
-      ≡ end_of true site.drive site.side 0x00 (other_bit task.other + 0x00) task.id Nothing
+      ≡ end_of true site.drive site.side 0x00 (other_bit task.other + 0x00) task.id None
   unfolding stage_of drain_of drained_of move_end
   other_kind sector looks h k l o = rw (eq-eqb c.fifo.count 0 h, k, l, o)
 
@@ -412,20 +412,20 @@ module _ (c : Controller) (site : Site) (task : Task) (a b : List ℕ) where
 
   -- WRITE
   no_byte : (slot wait : ℕ) → c.fifo.count ≡ 0 → 63 ≤ wait
-      → staged c site task a b (Awaiting slot wait) ≡ failing_late Nothing site task
+      → staged c site task a b (Awaiting slot wait) ≡ failing_late None site task
   unfolding stage_of await_of
-  no_byte slot wait h l = rw (eq-eqb c.fifo.count 0 h, le-leb 63 wait l) (late_is site task Nothing)
+  no_byte slot wait h l = rw (eq-eqb c.fifo.count 0 h, le-leb 63 wait l) (late_is site task None)
 
   underrun_is : (slot done : ℕ) → c.fifo.count ≡ 0 → done < size_of site.disk.n → c.fifo.tc ≡ false
       → staged c site task a b (Storing slot done)
       ≡ moves_of (Storing slot (done + 1)) site (tardy task) shut
-      (Store (data_place site (head_at site.drive c) slot done) 0x00)
+      (Some (put_at (data_place site (head_at site.drive c) slot done) 0x00))
   unfolding stage_of store_of dry_of underrun put_of
   underrun_is slot done h l t = rw (lt-leb (size_of site.disk.n) done l, eq-eqb c.fifo.count 0 h, t)
 
   short_is : (slot done : ℕ) → size_of site.disk.n ≤ done → task.late ≡ true
       → staged c site task a b (Storing slot done)
-      ≡ failing_late (Store (mark_place site (head_at site.drive c) slot) (written_mark false task)) site task
+      ≡ failing_late (Some (put_at (mark_place site (head_at site.drive c) slot) (written_mark false task))) site task
   unfolding stage_of store_of written_of
   short_is slot done l t = simp (le-leb (size_of site.disk.n) done l, t) (late_is site task _)
 
@@ -497,12 +497,12 @@ module _ (c : Controller) (site : Site) (task : Task) (a b : List ℕ) where
   pub at_next : (stage : Stage) (tc other : Bool) → AtNext c site task a b stage tc other → Follows stage tc other
   unfolding stage_of drain_of drained_of store_of written_of search_of looked_of data_found read_found
   at_next stage tc other (results.drained sector looks e h k l o t w) =
-      follows sector.slot Nothing task refl refl w l (rw (e, eq-eqb c.fifo.count 0 h, k, l, o, t))
+      follows sector.slot None task refl refl w l (rw (e, eq-eqb c.fifo.count 0 h, k, l, o, t))
   at_next stage tc other (results.stored slot done e l y t w) =
-      follows slot (Store (mark_place site (head_at site.drive c) slot) (written_mark false task)) task refl refl w y
+      follows slot (Some (put_at (mark_place site (head_at site.drive c) slot) (written_mark false task))) task refl refl w y
       (rw (e, le-leb (size_of site.disk.n) done l, y, t))
   at_next stage tc other (results.skipped look deleted broken e r l k m w n t o) =
-      follows look.slot Nothing (with_other true task) refl refl (other_true task.other ∙ sym o) l
+      follows look.slot None (with_other true task) refl refl (other_true task.other ∙ sym o) l
       (rw (e, m, sought_true (slot_here look) site task w, r, beq_false deleted task.transfer.deleted n, k, t))
 
   next_ends : EndsByNext c site task a b
@@ -531,7 +531,7 @@ module _ (c : Controller) (site : Site) (task : Task) (a b : List ℕ) where
 module _ (c : Controller) (site : Site) (a b : List ℕ) where
   found_is : (m : Mark) (id : Id) (slot passes : ℕ) (fifo : Fifo) → HasId m
       → identified_of m id slot passes site fifo
-      ≡ end_of true site.drive site.side 0x00 0x00 id Nothing
+      ≡ end_of true site.drive site.side 0x00 0x00 id None
   unfolding identified_of id_here
   found_is NoId id slot passes fifo h = absurd h
   found_is (Data deleted broken) id slot passes fifo h = refl
@@ -539,7 +539,7 @@ module _ (c : Controller) (site : Site) (a b : List ℕ) where
 
   none_is : (id : Id) (slot passes : ℕ) (fifo : Fifo) → SecondPass slot passes site
       → identified_of NoId id slot passes site fifo
-      ≡ end_of false site.drive site.side 0x01 0x00 zeros Nothing
+      ≡ end_of false site.drive site.side 0x01 0x00 zeros None
   unfolding identified_of no_id_here no_id_of
   none_is id slot passes fifo p = rw (second_true slot passes site p)
 
@@ -573,11 +573,11 @@ module _ (c : Controller) (site : Site) (plan : Plan) (a b : List ℕ) where
       (formatted_id plan site.drive (head_at site.drive c) site.side done) effect
 
   form_await_lem : (slot wait : ℕ) → c.fifo.count ≡ 0 → 63 ≤ wait
-      → formed (form.Awaiting slot wait) ≡ end_at false 0x10 slot Nothing
+      → formed (form.Awaiting slot wait) ≡ end_at false 0x10 slot None
   unfolding work_step form_of form_await format_end
   form_await_lem slot wait h l = rw (eq-eqb c.fifo.count 0 h, le-leb 63 wait l)
 
-  form_missing : (slot k : ℕ) → c.fifo.count ≡ 0 → formed (form.Addressing slot k) ≡ end_at false 0x10 slot Nothing
+  form_missing : (slot k : ℕ) → c.fifo.count ≡ 0 → formed (form.Addressing slot k) ≡ end_at false 0x10 slot None
   unfolding work_step form_of address_of format_end
   form_missing slot k h = rw (eq-eqb c.fifo.count 0 h)
 
@@ -588,14 +588,14 @@ module _ (c : Controller) (site : Site) (plan : Plan) (a b : List ℕ) where
 
   form_filled : (slot done : ℕ) → size_of site.disk.n ≤ done → plan.sc ≤ slot + 1 → site.disk.slots ≤ slot + 1
       → formed (form.Filling slot done)
-      ≡ end_at true 0x00 plan.sc (Store (mark_place site (head_at site.drive c) slot) (byte_of (Data false false)))
+      ≡ end_at true 0x00 plan.sc (Some (put_at (mark_place site (head_at site.drive c) slot) (byte_of (Data false false))))
   unfolding work_step form_of fill_of formed_of
   form_filled slot done h k l =
       rw (le-leb (size_of site.disk.n) done h, le-ltb (slot + 1) plan.sc k) (clears slot _ l)
 
   form_cleared : (slot : ℕ) → site.disk.slots ≤ slot + 1
       → formed (form.Clearing slot)
-      ≡ end_at true 0x00 plan.sc (Store (mark_place site (head_at site.drive c) slot) (byte_of NoId))
+      ≡ end_at true 0x00 plan.sc (Some (put_at (mark_place site (head_at site.drive c) slot) (byte_of NoId)))
   unfolding work_step form_of clear_of
   form_cleared slot l = clears slot _ l
 

@@ -1,12 +1,11 @@
 -- Demand 3's other side: document 01, Calls, "Only a tick changes an image", and Data commands: only a Write or a Format
 -- at work stores.
 -- Assumes nothing.
-use Rattle.std.specs.Prelude.{ℕ, Bool, true, List, [], ◌∷◌, ◌≡◌}
+use Rattle.std.specs.Prelude.{ℕ, Bool, true, List, [], ◌∷◌, ◌≡◌, Some}
 use Rattle.sectors.specs.declared.order.Pass.TheVariants.{Write}
 use Rattle.sectors.specs.declared.work.Work.{Work}
 use Rattle.sectors.specs.declared.work.Work.TheVariants.{Identifying, Moving, Formatting}
 use Rattle.engine.specs.Kept.{suited}
-use Rattle.image.specs.declared.disk.Disk.TheVariants.{Present}
 use Rattle.image.specs.declared.layout.Geometry.{Geometry}
 use Rattle.image.specs.Disk.{disk_in}
 use Rattle.image.specs.Lent.{pick_of}
@@ -52,7 +51,7 @@ pub record OnlyWrites : Type 0 where
 -- 01 Data commands: "Write or Format, protected": from every reached record a protected image never changes, whichever
 -- drive's it is and whatever its motor does. Of a tick, and over every list of calls whose ticks are handed it
 abbrev pub Locked : List ℕ → Type 0
-Locked img = (g : Geometry) × ((disk_in img ≡ Present g) × (g.protect ≡ true))
+Locked img = (g : Geometry) × ((disk_in img ≡ Some g) × (g.protect ≡ true))
 
 unfoldable pub AllHanded : ℕ → List ℕ → List Call → Type 0
 AllHanded k img [] = Unit {0}

@@ -1,7 +1,7 @@
 -- Demand 2, result bytes by command and cause of end: document 01, Data commands. Each row speaks of the tick that
 -- meets its cause, from any reached record, whatever the other image holds: ST0 ST1 ST2 C H R N.
 -- Assumes nothing.
-use Rattle.std.specs.Prelude.{ℕ, ◌+◌, ◌*◌, ◌%◌, ◌<◌, ◌≤◌, Bool, true, false, ◌&&◌, ◌||◌, not, cond, List, [], ◌∷◌, ◌⊎◌, ◌≡◌, eqb, ltb, set}
+use Rattle.std.specs.Prelude.{ℕ, ◌+◌, ◌*◌, ◌%◌, ◌<◌, ◌≤◌, Bool, true, false, ◌&&◌, ◌||◌, not, cond, List, [], ◌∷◌, ◌⊎◌, ◌≡◌, eqb, ltb, set, None, Some}
 use Rattle.chip.specs.Fifo.{capacity_of, emptied, shut}
 use Rattle.chip.specs.Next.{advanced_of}
 use Rattle.sectors.specs.declared.order.Job.{Job}
@@ -23,8 +23,7 @@ use Rattle.engine.specs.Format.{done_of}
 use Rattle.sectors.specs.Result.{late_bit, other_bit, tardy}
 use Rattle.sectors.specs.Search.{slot_of}
 use Rattle.engine.specs.Step.{drive_of, site_of}
-use Rattle.image.specs.declared.disk.Disk.{Disk}
-use Rattle.image.specs.declared.disk.Disk.TheVariants.{Absent, Present}
+use Rattle.image.specs.Disk.{Disk}
 use Rattle.image.specs.declared.layout.Geometry.{Geometry}
 use Rattle.image.specs.declared.mark.Mark.{Mark}
 use Rattle.image.specs.declared.mark.Mark.TheVariants.{NoId, Data, NoData}
@@ -107,18 +106,18 @@ FailsFirst st1 c order a b =
 pub record FirstEnds : Type 0 where
   -- empty drive: ST1 01
   pub empty : (c : Controller) (order : Order) (a b : List ℕ) → Before c order
-      → disk_of order.drive a b c ≡ Absent → FailsFirst 0x01 c order a b
+      → disk_of order.drive a b c ≡ None → FailsFirst 0x01 c order a b
   -- no such track or side: ST1 01
   pub no_track : (c : Controller) (order : Order) (a b : List ℕ) (g : Geometry) → Before c order
-      → disk_of order.drive a b c ≡ Present g → NoTrack g (head_at order.drive c) order.side
+      → disk_of order.drive a b c ≡ Some g → NoTrack g (head_at order.drive c) order.side
       → FailsFirst 0x01 c order a b
   -- Write or Format, protected: ST1 02
   pub protected : (c : Controller) (order : Order) (a b : List ℕ) (g : Geometry) → Before c order
-      → disk_of order.drive a b c ≡ Present g → OnTrack g (head_at order.drive c) order.side
+      → disk_of order.drive a b c ≡ Some g → OnTrack g (head_at order.drive c) order.side
       → ChangesJob order.job → g.protect ≡ true → FailsFirst 0x02 c order a b
   -- Format with N not the header's, SC 0 or SC above S: ST1 04
   pub misplanned : (c : Controller) (order : Order) (a b : List ℕ) (g : Geometry) (plan : Plan) → Before c order
-      → disk_of order.drive a b c ≡ Present g → OnTrack g (head_at order.drive c) order.side
+      → disk_of order.drive a b c ≡ Some g → OnTrack g (head_at order.drive c) order.side
       → order.job ≡ Format plan → g.protect ≡ false → Misplanned plan g → FailsFirst 0x04 c order a b
 
 -- A LATER TICK of a command at work, whose drive holds the disk that the first tick met
@@ -126,7 +125,7 @@ pub record FirstEnds : Type 0 where
 pub record During (c : Controller) (work : Work) (a b : List ℕ) : Type 0 where
   pub real : Real c
   pub works : c.phase ≡ Working work
-  pub stays : disk_of (drive_of work) a b c ≡ Present (site_of work).disk
+  pub stays : disk_of (drive_of work) a b c ≡ Some (site_of work).disk
 
 -- the slot looked at, its mark, and whether it is the one sought (01 Search: C H R N equal the command's and N is the
 -- header's)
@@ -316,8 +315,8 @@ pub record FormatEnds (c : Controller) (site : Site) (plan : Plan) (a b : List �
 
 -- 01 Data commands: a drive emptied or header changed later: ST1 01 at that tick, 11 after a late byte
 abbrev pub Lost : Disk → Geometry → Type 0
-Lost Absent met = Unit {0}
-Lost (Present g) met = g ≡ met → ⊥
+Lost None met = Unit {0}
+Lost (Some g) met = g ≡ met → ⊥
 
 pub record LostEnds (c : Controller) (a b : List ℕ) : Type 0 where
   pub identifies : (site : Site) (slot passes : ℕ) → Real c → c.phase ≡ Working (Identifying site slot passes)

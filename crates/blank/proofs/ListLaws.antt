@@ -4,36 +4,12 @@ use Prim.Native.Nat.{ℕ, zero, suc, ◌+◌, ◌*◌, ◌-◌, ◌≤◌, ◌<�
 use native.Mathlib.Nat.{suc-mul, zero-mul}
 use native.Mathlib.Numerals.{add-one}
 use native.Mathlib.Omega.{arith}
-use mathlib.Core.List.{List, [], ◌++◌, append_assoc, append-nil}
+use mathlib.Core.List.{List, ◌++◌, append_assoc, append-nil}
 use mathlib.Core.Logic.{◌⊎◌, inl, inr}
 use mathlib.Core.Path.{◌≡◌, refl, sym, ap, ◌∙◌}
-use lib.ListN.{
-  length,
-  get_or,
-  take,
-  drop,
-  set,
-  replicate,
-  length-append,
-  length-drop,
-  length-replicate,
-  drop_of_length-le,
-  replicate-append-replicate,
-  get_or-append,
-}
+use lib.ListN.{length, get_or, take, drop, length-append, length-drop, get_or-append}
 use borrow.Rule.Slice.PartMut.{put_mid, Post-is, same_len_mid}
-use lib.Seq.{
-  take-append_seam,
-  drop-length,
-  length-take-le,
-  take-suc,
-  drop-cons,
-  set_at,
-  take_at,
-  drop-drop,
-  drop-append-add,
-  get_or-append-add,
-}
+use lib.Seq.{drop-length, length-take-le, take_at, drop-drop, drop-append-add, get_or-append-add}
 use Rattle.image.proofs.TestLaws.{le_or_lt}
 use Rattle.image.proofs.LayoutLaws.{row_inside}
 use Rattle.blank.specs.Blank.{in_turn}
@@ -63,116 +39,61 @@ module _ (f : ℕ → List ℕ) (w : ℕ) (width : (i : ℕ) → length (f i) �
 pub part_length : (s : List ℕ) (at n : ℕ) → at + n ≤ length s → length (take n (drop at s)) ≡ n
 part_length s at n h = length-take-le n (drop at s) (omega (arith, length-drop at s))
 
--- k of n parts of w bytes are put into a slice, up to a place of it; behind it the slice is as it was
-pub record Turned (f : ℕ → List ℕ) (w n : ℕ) (s₀ s : List ℕ) (k at : ℕ) : Type 0 where
+-- k of n parts of w bytes are put into a slice; behind them the slice is as it was
+pub record Turned (f : ℕ → List ℕ) (w n : ℕ) (s₀ s : List ℕ) (k : ℕ) : Type 0 where
   pub most : k ≤ n
-  pub place : at ≡ k * w
   pub kept : length s ≡ length s₀
-  pub bytes : s ≡ in_turn f k ++ drop at s₀
+  pub bytes : s ≡ in_turn f k ++ drop (k * w) s₀
 
-pub turned_none : (f : ℕ → List ℕ) (w n : ℕ) (s : List ℕ) → Turned f w n s s 0 0
-turned_none f w n s = record { most = omega arith; place = omega arith; kept = refl; bytes = refl }
+pub turned_none : (f : ℕ → List ℕ) (w n : ℕ) (s : List ℕ) → Turned f w n s s 0
+turned_none f w n s = record { most = omega arith; kept = refl; bytes = rw (zero-mul w) }
 
 module _
     (f : ℕ → List ℕ)
     (w n : ℕ)
     (s₀ s : List ℕ)
-    (k at : ℕ)
+    (k : ℕ)
     (width : (i : ℕ) → length (f i) ≡ w)
     (whole : length s₀ ≡ n * w)
-    (t : Turned f w n s₀ s k at)
+    (t : Turned f w n s₀ s k)
   where
     -- the next part lies within
-    pub turned_within : (size : ℕ) → size ≡ w → k < n → at + size ≤ length s
-    turned_within size l h = omega (arith, row_inside k n w h, t.place, t.kept)
+    pub turned_within : (at : ℕ) → at ≡ k * w → k < n → at + w ≤ length s
+    turned_within at e h = omega (arith, row_inside k n w h, t.kept)
 
-    pub turned_part : (size : ℕ) → size ≡ w → k < n → length (take (at + size - at) (drop at s)) ≡ w
-    turned_part size l h =
-        let within = turned_within size l h in
-        part_length s at (at + size - at) (omega arith) ∙ omega arith
-
-    behind : (size : ℕ) → length (in_turn f k) ≡ at → drop (at + size) (in_turn f k ++ drop at s₀) ≡ drop (at + size) s₀
-    behind size front =
-        ap (λ (i : ℕ). drop (i + size) (in_turn f k ++ drop at s₀)) (sym front)
-        ∙ drop-append-add (in_turn f k) (drop at s₀) size ∙ drop-drop size at s₀
+    pub turned_part : (at : ℕ) → at ≡ k * w → k < n → length (take (at + w - at) (drop at s)) ≡ w
+    turned_part at e h =
+        let within = turned_within at e h in
+        part_length s at (at + w - at) (omega arith) ∙ omega arith
 
     -- and is put behind those that are there
     pub turned_next :
-        (size : ℕ) (part : List ℕ) → size ≡ w → k < n → part ≡ f k
-        → Turned f w n s₀ (put_mid at (at + size - at) s part) (k + 1) (at + size)
-    turned_next size part l h p =
-        let front : length (in_turn f k) ≡ at = turn_length f w width k ∙ sym t.place in
+        (at : ℕ) (part : List ℕ) → at ≡ k * w → k < n → part ≡ f k
+        → Turned f w n s₀ (put_mid at (at + w - at) s part) (k + 1)
+    turned_next at part e h p =
+        let front : length (in_turn f k) ≡ at = turn_length f w width k ∙ sym e in
         let long : length part ≡ w = ap length p ∙ width k in
-        let within = turned_within size l h in
+        let within = turned_within at e h in
+        let next : (k + 1) * w ≡ at + w = omega (arith, suc-mul k w) in
         record {
           most = omega arith;
-          place = omega (arith, t.place, suc-mul k w);
-          kept = same_len_mid at (at + size - at) s part
-              (omega (arith, part_length s at (at + size - at) (omega arith))) ∙ t.kept;
-          bytes = rw (Post-is at (at + size) s (omega arith), p, t.bytes, add-one, append_assoc) (
-              ap (λ (l : List ℕ). l ++ (f k ++ drop (at + size) (in_turn f k ++ drop at s₀)))
+          kept = same_len_mid at (at + w - at) s part
+              (omega (arith, part_length s at (at + w - at) (omega arith))) ∙ t.kept;
+          bytes = rw (next, Post-is at (at + w) s (omega arith), p, t.bytes, ← e, add-one, append_assoc) (
+              ap (λ (l : List ℕ). l ++ (f k ++ drop (at + w) (in_turn f k ++ drop at s₀)))
               (take_at (in_turn f k) (drop at s₀) at front)
-              ∙ ap (λ (l : List ℕ). in_turn f k ++ (f k ++ l)) (behind size front)
+              ∙ ap (λ (l : List ℕ). in_turn f k ++ (f k ++ l)) (behind front)
               );
         }
+      where
+        behind : length (in_turn f k) ≡ at → drop (at + w) (in_turn f k ++ drop at s₀) ≡ drop (at + w) s₀
+        behind front =
+            ap (λ (i : ℕ). drop (i + w) (in_turn f k ++ drop at s₀)) (sym front)
+            ∙ drop-append-add (in_turn f k) (drop at s₀) w ∙ drop-drop w at s₀
 
     -- all parts take the whole slice
     pub turned_all : n ≤ k → s ≡ in_turn f n
     turned_all h =
         let e : k ≡ n = omega (arith, t.most) in
-        let end : at ≡ length s₀ = t.place ∙ (ap (λ (i : ℕ). i * w) e ∙ sym whole) in
+        let end : k * w ≡ length s₀ = ap (λ (i : ℕ). i * w) e ∙ sym whole in
         t.bytes ∙ rw (end, drop-length s₀, append-nil, e)
-
--- behind the first bytes, all that is left
-pub body_put :
-    (s front t body : List ℕ) → t ≡ front ++ drop (length front) s → length front ≤ length s
-    → put_mid (length front) (length t - length front) t body ≡ front ++ body
-body_put s front t body e h =
-    let same : length t ≡ length s = omega (
-      arith,
-      ap length e,
-      length-append front (drop (length front) s),
-      length-drop (length front) s,
-    ) in
-    rw (Post-is (length front) (length t) t (omega arith), drop-length t, append-nil, e) (
-    ap (λ (l : List ℕ). l ++ body) (take-append_seam front (drop (length front) s))
-    )
-
--- a first part, and then the bytes that are left
-pub rest_put :
-    (s a t bytes last : List ℕ) (end : ℕ) → length a ≡ end → length s ≡ end + length bytes → t ≡ put_mid 0 (end - 0) s a
-    → last ≡ bytes ++ drop (length bytes) (take (length t - end) (drop end t))
-    → put_mid end (length t - end) t last ≡ a ++ bytes
-rest_put s a t bytes last end h l e q =
-    let first : t ≡ a ++ drop (length a) s = e ∙ rw (← h, Post-is 0 (length a) s (omega arith)) in
-    let same : length t ≡ length s = omega (
-      arith,
-      ap length first,
-      length-append a (drop (length a) s),
-      length-drop (length a) s,
-    ) in
-    let left : drop (length bytes) (take (length t - end) (drop end t)) ≡ [] = drop_of_length-le
-    (take (length t - end) (drop end t)) {i = length bytes}
-    (omega (arith, part_length t end (length t - end) (omega arith))) in
-    let all : last ≡ bytes = q ∙ rw (left, append-nil) in
-    rw (← h, all) (body_put s a t bytes first (omega arith))
-
--- one byte more of those that are all the same
-pub fill_step :
-    (s : List ℕ) (i fill : ℕ) → i < length s
-    → set (replicate i fill ++ drop i s) i fill ≡ replicate (i + 1) fill ++ drop (i + 1) s
-fill_step s i fill h =
-    rw (drop-cons s i 0 h) (
-    set_at (replicate i fill) (get_or s i 0) (drop (suc i) s) fill i (length-replicate i fill)
-    ∙ rw (← replicate-append-replicate i 1 fill, append_assoc, add-one)
-    )
-
--- one byte more of those that are copied
-pub copy_step :
-    (s bytes : List ℕ) (i : ℕ) → i < length bytes → length bytes ≤ length s
-    → set (take i bytes ++ drop i s) i (get_or bytes i 0) ≡ take (i + 1) bytes ++ drop (i + 1) s
-copy_step s bytes i h l =
-    rw (drop-cons s i 0 (omega arith)) (
-    set_at (take i bytes) (get_or s i 0) (drop (suc i) s) (get_or bytes i 0) i (length-take-le i bytes (omega arith))
-    ∙ rw (add-one, take-suc bytes i 0 h, append_assoc)
-    )

@@ -1,9 +1,13 @@
 -- A block's place lies on its disk (02 2026-01).
 -- Assumes nothing.
+use Rattle.std.specs.Prelude.{Some}
 use Prim.Native.Nat.{ℕ, ◌*◌, ◌/◌, ◌%◌, ◌<◌}
+use mathlib.Core.List.{List}
+use mathlib.Core.Path.{◌≡◌, sym}
 use native.Mathlib.Nat.{div-lt_iff_lt-mul, mod-lt}
 use Rattle.image.specs.declared.layout.Geometry.{Geometry}
-use Rattle.image.specs.Disk.{InRange}
+use Rattle.image.specs.Disk.{InRange, disk_in}
+use Rattle.image.proofs.DiskLaws.{present_fits}
 use Rattle.block.specs.Place.{blocks_of}
 
 module _ (g : Geometry) (block : ℕ) (range : InRange g) where
@@ -18,3 +22,7 @@ module _ (g : Geometry) (block : ℕ) (range : InRange g) where
 
   pub sector_on : block % g.slots < g.slots
   sector_on = mod-lt block range.slots.0
+
+-- of a disk that is there
+pub disk_range : (img : List ℕ) (g : Geometry) → Some g ≡ disk_in img → InRange g
+disk_range img g e = (present_fits img g (sym e)).range

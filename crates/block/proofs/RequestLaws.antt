@@ -1,117 +1,88 @@
--- A data command to its end, and a request's two ways (02 2026-01).
+-- A request's two ways: refused, or served (02 2026-01).
 -- Assumes nothing.
+use Rattle.std.specs.Prelude.{None, Some, Result, Ok, Err}
 use Prim.Native.Nat.{ℕ}
-use mathlib.Core.Bool.{true, false}
+use mathlib.Core.Bool.{Bool, true, false, not, cond}
 use mathlib.Core.List.{List}
-use mathlib.Core.Path.{◌≡◌, sym, ap}
-use lib.ListN.{replicate}
-use Rattle.image.specs.declared.layout.Geometry.{Geometry}
+use mathlib.Core.Path.{◌≡◌, refl, ap, ◌∙◌}
+use lib.Dec.{eqb, leb}
+use lib.ListN.{length}
+use Rattle.image.specs.Disk.{Disk, disk_in}
+use Rattle.image.specs.Layout.{size_of}
+use Rattle.image.specs.Lent.{pick_of}
 use Rattle.fdc.specs.declared.record.Controller.{Controller}
-use Rattle.block.specs.declared.place.Place.{Place}
-use Rattle.block.specs.declared.request.Ending.{Ending}
-use Rattle.block.specs.declared.request.Reply.TheVariants.{Ended, RanOut}
-use Rattle.block.specs.declared.serve.Status.{Status}
-use Rattle.block.specs.Box.{Box, box_of, came_with}
-use Rattle.block.specs.Head.{prepared_of}
-use Rattle.block.specs.Ready.{command_of}
-use Rattle.block.specs.Serve.{came_read, reads_of, writes_of, status_from}
-use Rattle.block.specs.Request.{budget_of, order_bytes, ending_of, lost_bytes}
-use Rattle.block.specs.Request.{ReadDone, read_with, read_on, read_at, WriteDone, written_with, write_on, write_at}
+use Rattle.fdc.specs.Record.{valid_of}
+use Rattle.block.specs.declared.request.Refusal.{Refusal}
+use Rattle.block.specs.declared.request.Reply.TheVariants.{Refused}
+use Rattle.block.specs.declared.request.Target.{Target}
+use Rattle.block.specs.Box.{Box, box_of}
+use Rattle.block.specs.Place.{blocks_of}
+use Rattle.block.specs.Request.{asked_in, asked_of, ReadDone, read_with, read_at, read_in, read_block}
+use Rattle.block.specs.Request.{WriteDone, written_with, write_at, write_in, write_block}
 
--- of two that are equal, the parts
-pub done_parts : {r s : ReadDone} → r ≡ s
-    → (s.reply ≡ r.reply)
-    × ((s.box.controller ≡ r.box.controller)
-    × ((s.box.first ≡ r.box.first) × ((s.box.second ≡ r.box.second) × (s.out ≡ r.out))))
-done_parts e = (
-  ap (λ (r : ReadDone). r.reply) (sym e),
-  (
-    ap (λ (r : ReadDone). r.box.controller) (sym e),
-    (
-      ap (λ (r : ReadDone). r.box.first) (sym e),
-      (ap (λ (r : ReadDone). r.box.second) (sym e), ap (λ (r : ReadDone). r.out) (sym e)),
-    ),
-  ),
-)
+-- what a request does, by what it asks for
+abbrev read_told : Box → List ℕ → Result Target Refusal → ReadDone
+read_told s out (Ok t) = read_at t.drive t.disk t.place s out
+read_told s out (Err e) = read_with (Refused e) s out
 
-pub written_parts : {r s : WriteDone} → r ≡ s
-    → (s.reply ≡ r.reply)
-    × ((s.box.controller ≡ r.box.controller)
-    × ((s.box.first ≡ r.box.first) × (s.box.second ≡ r.box.second)))
-written_parts e = (
-  ap (λ (r : WriteDone). r.reply) (sym e),
-  (
-    ap (λ (r : WriteDone). r.box.controller) (sym e),
-    (ap (λ (r : WriteDone). r.box.first) (sym e), ap (λ (r : WriteDone). r.box.second) (sym e)),
-  ),
-)
+abbrev write_told : Box → List ℕ → Result Target Refusal → WriteDone
+write_told s bytes (Ok t) = write_at t.drive t.disk t.place s bytes
+write_told s bytes (Err e) = written_with (Refused e) s
 
-module _
-    (drive n : ℕ)
-    (g : Geometry)
-    (place : Place)
-    (bytes : List ℕ)
-    (c begun : Controller)
-    (a b : List ℕ)
-    (command : begun ≡ command_of bytes c)
-    (budget : n ≡ budget_of g)
-  where
-    -- the result bytes are taken
-    pub read_ended : (out out' x y : List ℕ) (d : Controller) (st : Status) (e : Ending)
-        → bytes ≡ order_bytes 0x46 drive g place
-        → reads_of n (box_of begun a b) out 0 ≡ came_read true (box_of d x y) out'
-        → st ≡ status_from 7 0 (replicate 7 0) d
-        → e ≡ ending_of st.bytes
-        → read_on drive g place (box_of c a b) out ≡ read_with (Ended e) (box_of st.controller x y) out'
-    unfolding read_on
-    read_ended out out' x y d st e ordered came p q = rw (← ordered, ← command, ← budget, came, q, p)
+-- a test passes to each of two
+each : {A B : Type 0} (f : A → B) (t : Bool) (x y : A) → f (cond t x y) ≡ cond t (f x) (f y)
+each f true x y = refl
+each f false x y = refl
 
-    -- the budget ran out
-    pub read_lost : (out out' : List ℕ) (t : Box) (e : Ending)
-        → bytes ≡ order_bytes 0x46 drive g place
-        → reads_of n (box_of begun a b) out 0 ≡ came_read false t out'
-        → e ≡ ending_of (lost_bytes g place)
-        → read_on drive g place (box_of c a b) out ≡ read_with (RanOut e) t out'
-    unfolding read_on
-    read_lost out out' t e ordered lost q = rw (← ordered, ← command, ← budget, lost, q)
+module _ (drive block : ℕ) (s : Box) (slice : List ℕ) where
+  read_in_told : (d : Disk)
+      → read_told s slice (asked_in d drive block (length slice)) ≡ read_in d drive block s slice
+  unfolding asked_in read_in
+  read_in_told None = refl
+  read_in_told (Some g) =
+      each (read_told s slice) (leb (blocks_of g) block) _ _
+      ∙ ap (cond (leb (blocks_of g) block) _)
+      (each (read_told s slice) (not (eqb (length slice) (size_of g.n))) _ _)
 
-    pub write_ended : (given x y : List ℕ) (d : Controller) (st : Status) (e : Ending)
-        → bytes ≡ order_bytes 0x45 drive g place
-        → writes_of n (box_of begun a b) given 0 ≡ came_with true (box_of d x y)
-        → st ≡ status_from 7 0 (replicate 7 0) d
-        → e ≡ ending_of st.bytes
-        → write_on drive g place (box_of c a b) given ≡ written_with (Ended e) (box_of st.controller x y)
-    unfolding write_on
-    write_ended given x y d st e ordered came p q = rw (← ordered, ← command, ← budget, came, q, p)
+  write_in_told : (d : Disk)
+      → write_told s slice (asked_in d drive block (length slice)) ≡ write_in d drive block s slice
+  unfolding asked_in write_in
+  write_in_told None = refl
+  write_in_told (Some g) =
+      each (write_told s slice) (leb (blocks_of g) block) _ _
+      ∙ ap (cond (leb (blocks_of g) block) _)
+      (each (write_told s slice) (not (eqb (length slice) (size_of g.n))) _ _)
 
-    pub write_lost : (given : List ℕ) (t : Box) (e : Ending)
-        → bytes ≡ order_bytes 0x45 drive g place
-        → writes_of n (box_of begun a b) given 0 ≡ came_with false t
-        → e ≡ ending_of (lost_bytes g place)
-        → write_on drive g place (box_of c a b) given ≡ written_with (RanOut e) t
-    unfolding write_on
-    write_lost given t e ordered lost q = rw (← ordered, ← command, ← budget, lost, q)
+  read_block_told :
+      read_told s slice (asked_of drive block (length slice) (pick_of drive s.first s.second) s.controller)
+      ≡ read_block drive block s slice
+  unfolding asked_of read_block
+  read_block_told =
+      each (read_told s slice) (not (valid_of s.controller)) _ _
+      ∙ ap (cond (not (valid_of s.controller)) _) (read_in_told (disk_in (pick_of drive s.first s.second)))
 
--- the head is there, or a wait's budget ran out
-module _ (drive : ℕ) (g : Geometry) (place : Place) (s t : Box) where
-  pub read_there : (out : List ℕ) → prepared_of drive place.cylinder s ≡ came_with true t
-      → read_at drive g place s out ≡ read_on drive g place t out
-  unfolding read_at
-  read_there out p = rw p
+  write_block_told :
+      write_told s slice (asked_of drive block (length slice) (pick_of drive s.first s.second) s.controller)
+      ≡ write_block drive block s slice
+  unfolding asked_of write_block
+  write_block_told =
+      each (write_told s slice) (not (valid_of s.controller)) _ _
+      ∙ ap (cond (not (valid_of s.controller)) _) (write_in_told (disk_in (pick_of drive s.first s.second)))
 
-  pub read_not_there : (out : List ℕ) (e : Ending) → prepared_of drive place.cylinder s ≡ came_with false t
-      → e ≡ ending_of (lost_bytes g place)
-      → read_at drive g place s out ≡ read_with (RanOut e) t out
-  unfolding read_at
-  read_not_there out e p q = rw (p, q)
+-- of a box by its parts
+module _ (drive block : ℕ) (c : Controller) (a b slice : List ℕ) where
+  pub read_asked : (t : Target) → Ok t ≡ asked_of drive block (length slice) (pick_of drive a b) c
+      → read_at t.drive t.disk t.place (box_of c a b) slice ≡ read_block drive block (box_of c a b) slice
+  read_asked t q = ap (read_told (box_of c a b) slice) q ∙ read_block_told drive block (box_of c a b) slice
 
-  pub write_there : (bytes : List ℕ) → prepared_of drive place.cylinder s ≡ came_with true t
-      → write_at drive g place s bytes ≡ write_on drive g place t bytes
-  unfolding write_at
-  write_there bytes p = rw p
+  pub read_refused : (e : Refusal) → Err e ≡ asked_of drive block (length slice) (pick_of drive a b) c
+      → read_with (Refused e) (box_of c a b) slice ≡ read_block drive block (box_of c a b) slice
+  read_refused e q = ap (read_told (box_of c a b) slice) q ∙ read_block_told drive block (box_of c a b) slice
 
-  pub write_not_there : (bytes : List ℕ) (e : Ending) → prepared_of drive place.cylinder s ≡ came_with false t
-      → e ≡ ending_of (lost_bytes g place)
-      → write_at drive g place s bytes ≡ written_with (RanOut e) t
-  unfolding write_at
-  write_not_there bytes e p q = rw (p, q)
+  pub write_asked : (t : Target) → Ok t ≡ asked_of drive block (length slice) (pick_of drive a b) c
+      → write_at t.drive t.disk t.place (box_of c a b) slice ≡ write_block drive block (box_of c a b) slice
+  write_asked t q = ap (write_told (box_of c a b) slice) q ∙ write_block_told drive block (box_of c a b) slice
+
+  pub write_refused : (e : Refusal) → Err e ≡ asked_of drive block (length slice) (pick_of drive a b) c
+      → written_with (Refused e) (box_of c a b) ≡ write_block drive block (box_of c a b) slice
+  write_refused e q = ap (write_told (box_of c a b) slice) q ∙ write_block_told drive block (box_of c a b) slice

@@ -2,9 +2,10 @@
 -- more if the report was 70 + drive (heads 80, 81); Seek unless cylinder 0.
 -- Assumes nothing.
 use Rattle.std.specs.Prelude.{ℕ, zero, suc, ◌+◌, ◌*◌, ◌%◌, Bool, true, false, ◌&&◌, cond, List, [], ◌∷◌, eqb}
-use Rattle.block.specs.declared.ready.Waited.{Waited}
+use Rattle.std.specs.Prelude.{Result, Ok, Err}
+use Rattle.block.specs.declared.ready.Late.{Late}
 use Rattle.block.specs.Box.{Box, with_record, tick_answer, ticked, Came, came_with}
-use Rattle.block.specs.Ready.{command_of, sense_of, ready_of}
+use Rattle.block.specs.Ready.{command_of, sense_of, Waited, ready_of}
 
 -- ticks until INT, so many at most
 unfoldable pub wait_of : ℕ → Box → Came
@@ -19,6 +20,11 @@ pub record Moved : Type 0 where
 
 abbrev pub moved_with : Bool → ℕ → Box → Moved
 moved_with came st0 box = record { came = came; st0 = st0; box = box }
+
+-- the ST0 that a call answers
+abbrev pub st0_in : Result ℕ Late → ℕ
+st0_in (Ok st0) = st0
+st0_in (Err e) = 0
 
 -- its report is sensed
 abbrev pub report_taken : Came → Moved

@@ -1,9 +1,8 @@
 -- Which sector a block is: document 02, 2026-01, "Block b is sector b mod S plus 1, side the quotient mod heads,
 -- cylinder the rest".
 -- Assumes nothing.
-use Rattle.std.specs.Prelude.{ℕ, ◌+◌, ◌*◌, ◌/◌, ◌%◌, List}
-use Rattle.image.specs.declared.disk.Disk.{Disk}
-use Rattle.image.specs.declared.disk.Disk.TheVariants.{Absent, Present}
+use Rattle.std.specs.Prelude.{ℕ, ◌+◌, ◌*◌, ◌/◌, ◌%◌, List, None, Some}
+use Rattle.image.specs.Disk.{Disk}
 use Rattle.image.specs.declared.layout.Geometry.{Geometry}
 use Rattle.image.specs.Disk.{disk_in}
 use Rattle.image.specs.Layout.{size_of}
@@ -14,12 +13,12 @@ abbrev pub blocks_of : Geometry → ℕ
 blocks_of g = g.cylinders * g.heads * g.slots
 
 abbrev pub blocks_on : Disk → ℕ
-blocks_on Absent = 0
-blocks_on (Present g) = blocks_of g
+blocks_on None = 0
+blocks_on (Some g) = blocks_of g
 
 abbrev pub bytes_on : Disk → ℕ
-bytes_on Absent = 0
-bytes_on (Present g) = size_of g.n
+bytes_on None = 0
+bytes_on (Some g) = size_of g.n
 
 -- of an image: how many, and of how many bytes; 0 where its header or length does not fit
 abbrev pub blocks_in : List ℕ → ℕ

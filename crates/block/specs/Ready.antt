@@ -3,12 +3,17 @@
 -- Specify F0 00.
 -- Assumes nothing.
 use Rattle.std.specs.Prelude.{ℕ, zero, suc, ◌+◌, ◌*◌, ◌/◌, ◌%◌, Bool, true, false, not, ◌||◌, cond, List, [], ◌∷◌, eqb}
+use Rattle.std.specs.Prelude.{Result, Ok, Err}
 use Rattle.fdc.specs.declared.answer.Answer.{Answer}
 use Rattle.fdc.specs.declared.record.Controller.{Controller}
 use Rattle.fdc.specs.Answer.{value_of}
 use Rattle.fdc.specs.Calls.{read_port, write_port}
-use Rattle.block.specs.declared.ready.Sensed.{Sensed}
-use Rattle.block.specs.declared.ready.Waited.{Waited}
+use Rattle.block.specs.declared.ready.Late.{Late}
+
+-- whether what a call waited for came within its budget
+abbrev pub in_time : {A : Type 0} → Result A Late → Bool
+in_time (Ok value) = true
+in_time (Err e) = false
 
 abbrev pub weight_of : Bool → ℕ → ℕ
 weight_of on byte = cond on byte 0
@@ -42,26 +47,39 @@ command_of (byte ∷ bytes) c = command_of bytes (write_port 5 byte c).controlle
 abbrev pub first_sensed : Controller → Answer
 first_sensed c = read_port 5 (write_port 5 0x08 c).controller
 
+-- what it answers, and what it leaves
+pub record Sensed : Type 0 where
+  pub st0 : ℕ
+  pub controller : Controller
+
+abbrev pub sensed_with : ℕ → Controller → Sensed
+sensed_with st0 c = record { st0 = st0; controller = c }
+
 unfoldable pub sense_of : Controller → Sensed
 sense_of c =
     cond (eqb (value_of (first_sensed c).reply) 0x80)
-    (record { st0 = value_of (first_sensed c).reply; controller = (first_sensed c).controller })
-    (record {
-      st0 = value_of (first_sensed c).reply;
-      controller = (read_port 5 (first_sensed c).controller).controller;
-    })
+    (sensed_with (value_of (first_sensed c).reply) (first_sensed c).controller)
+    (sensed_with (value_of (first_sensed c).reply) (read_port 5 (first_sensed c).controller).controller)
+
+-- whether what was waited for came within its budget, and what is left then
+pub record Waited : Type 0 where
+  pub came : Bool
+  pub controller : Controller
+
+abbrev pub waited_with : Bool → Controller → Waited
+waited_with came c = record { came = came; controller = c }
 
 -- until 80, so many at most
 unfoldable pub clear_of : ℕ → Controller → Waited
-clear_of zero c = record { came = false; controller = c }
+clear_of zero c = waited_with false c
 clear_of (suc n) c =
-    cond (eqb (sense_of c).st0 0x80) (record { came = true; controller = (sense_of c).controller })
+    cond (eqb (sense_of c).st0 0x80) (waited_with true (sense_of c).controller)
     (clear_of n (sense_of c).controller)
 
 abbrev pub specified : Waited → Waited
 specified w =
     cond w.came
-    (record { came = true; controller = command_of (0x03 ∷ 0xF0 ∷ 0x00 ∷ []) w.controller })
+    (waited_with true (command_of (0x03 ∷ 0xF0 ∷ 0x00 ∷ []) w.controller))
     w
 
 -- a reset leaves four reports at most, and then 80 comes

@@ -8,7 +8,6 @@ use Rattle.fdc.specs.declared.record.Controller.{Controller}
 use Rattle.fdc.specs.Answer.{value_of}
 use Rattle.fdc.specs.Calls.{read_port, dma_read, dma_write}
 use Rattle.block.specs.declared.serve.Passed.{Passed}
-use Rattle.block.specs.declared.serve.Status.{Status}
 use Rattle.block.specs.Box.{Box, with_record, tick_answer, ticked, Came, came_with}
 
 -- some bytes taken: the last cycle's answer, the caller's block, and how many they are
@@ -71,8 +70,16 @@ writes_of (suc n) s bytes done =
     (writes_of n (with_record (given_after s bytes done).answer.controller (ticked s)) bytes
     (given_after s bytes done).done)
 
+-- result bytes, and what their reading leaves
+pub record Status : Type 0 where
+  pub bytes : List ℕ
+  pub controller : Controller
+
+abbrev pub status_with : List ℕ → Controller → Status
+status_with bytes c = record { bytes = bytes; controller = c }
+
 -- so many results more, put from place k on
 unfoldable pub status_from : ℕ → ℕ → List ℕ → Controller → Status
-status_from zero k bytes c = record { bytes = bytes; controller = c }
+status_from zero k bytes c = status_with bytes c
 status_from (suc n) k bytes c =
     status_from n (k + 1) (set bytes k (value_of (read_port 5 c).reply)) (read_port 5 c).controller

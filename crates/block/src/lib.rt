@@ -3,8 +3,8 @@
 // and nothing else.
 #![tactic(auto)]
 
-pub mod head;
+mod head;
 pub mod place;
-pub mod ready;
+mod ready;
 pub mod request;
 pub mod serve;

@@ -1,12 +1,17 @@
 // The controller made ready for a request (02 2026-01): DOR with bit 2 low, then high, Sense Interrupt until 80,
 // Specify.
 ghost use Rattle.std.specs.Prelude.{◌≡◌, ◌≤◌};
+ghost use Rattle.fdc.specs.Answer.{value_of};
+ghost use Rattle.fdc.specs.Calls.{read_port, write_port};
 ghost use Rattle.block.specs.Ready.{
+  in_time,
   weight_of,
   dor_for,
   reset_for,
   command_of,
+  sensed_with,
   sense_of,
+  waited_with,
   clear_of,
   ready_of,
 };
@@ -15,27 +20,41 @@ use fdc::answer::value;
 use fdc::record::Controller;
 
 // The data register.
-pub(crate) const FIFO: u8 = 5;
+const FIFO: u8 = 5;
 
-// What a Sense Interrupt answered.
-#[derive(Clone, Copy)]
-pub struct Sensed {
-    pub st0: u8,
-    pub controller: Controller,
+// A wait's budget ran out.
+#[derive(Clone, Copy, Debug, PartialEq, Eq)]
+pub(crate) struct Late;
+
+fn write(c: &mut Controller, offset: u8, byte: u8)
+    ensures { c.new ≡ (write_port offset byte c.old).controller }
+{
+    *c = c.write_port(offset, byte).controller;
 }
 
-// Whether what was waited for came within its budget.
-#[derive(Clone, Copy)]
-pub struct Waited {
-    pub came: bool,
-    pub controller: Controller,
+fn read(c: &mut Controller, offset: u8) -> u8
+    ensures byte { result ≡ value_of (read_port offset c.old).reply }
+    ensures controller { c.new ≡ (read_port offset c.old).controller }
+{
+    let answer = c.read_port(offset);
+    *c = answer.controller;
+    value(answer.reply)
 }
 
+// A byte from the data register.
+pub(crate) fn result_byte(c: &mut Controller) -> u8
+    ensures byte { result ≡ value_of (read_port 5 c.old).reply }
+    ensures controller { c.new ≡ (read_port 5 c.old).controller }
+{
+    read(c, FIFO)
+}
+
+// sectors and capi have such a product too (sectors/src/ends.rt says why).
 fn weight(on: bool, byte: u8) -> u8
     ensures value { result ≡ weight_of on byte }
     ensures upper_bound { result ≤ byte }
 {
-    if on { byte } else { 0 }
+    byte * u8::from(on)
 }
 
 // DOR with the drive selected, its motor and the gate on, the other motors as they are, in reset or not.
@@ -52,97 +71,56 @@ fn dor_for(drive: u8, held: bool, dor: u8) -> u8
 }
 
 #[tactic(auto, unfolding(crate::specs::Ready::reset_for))]
-fn reset(c: Controller, drive: u8) -> Controller
-    ensures { result ≡ reset_for drive c }
+fn reset(c: &mut Controller, drive: u8)
+    ensures { c.new ≡ reset_for drive c.old }
 {
-    let shown = c.read_port(2);
-    let reply = shown.reply;
-    let dor = value(reply);
-    let controller = shown.controller;
-    let low = controller.write_port(2, dor_for(drive, true, dor));
-    let held = low.controller;
-    let high = held.write_port(2, dor_for(drive, false, dor));
-    high.controller
+    let dor = read(c, 2);
+    write(c, 2, dor_for(drive, true, dor));
+    write(c, 2, dor_for(drive, false, dor));
 }
 
 // The bytes of a command, one after the other.
-pub(crate) fn command(c: Controller, bytes: &[u8]) -> Controller
-    ensures { result ≡ command_of bytes.now c }
+pub(crate) fn command(c: &mut Controller, bytes: &[u8])
+    ensures { c.new ≡ command_of bytes.now c.old }
 {
-    let mut controller = c;
-    let mut k = 0;
-    while k < bytes.len() {
-        let answer = controller.write_port(FIFO, bytes[k]);
-        controller = answer.controller;
-        k += 1;
+    for &byte in bytes {
+        write(c, FIFO, byte);
     }
-    controller
 }
 
 // Sense Interrupt: ST0 and PCN, or 80 alone.
 #[tactic(auto, unfolding(crate::specs::Ready::sense_of))]
-pub(crate) fn sense(c: Controller) -> Sensed
-    ensures { result ≡ sense_of c }
+pub(crate) fn sense(c: &mut Controller) -> u8
+    ensures { sensed_with result c.new ≡ sense_of c.old }
 {
-    let asked = c.write_port(FIFO, 0x08);
-    let controller = asked.controller;
-    let first = controller.read_port(FIFO);
-    let reply = first.reply;
-    let st0 = value(reply);
-    let rest = first.controller;
-    let alone = st0 == 0x80;
-    if alone {
-        return Sensed {
-            st0,
-            controller: rest,
-        };
+    write(c, FIFO, 0x08);
+    let st0 = read(c, FIFO);
+    if st0 != 0x80 {
+        let _pcn = read(c, FIFO);
     }
-    let second = rest.read_port(FIFO);
-    let last = second.controller;
-    Sensed {
-        st0,
-        controller: last,
-    }
+    st0
 }
 
 // Sense Interrupt until 80: a reset leaves a report for each of four drives at most.
-#[tactic(auto, using(crate::proofs::ReadyLaws::clear_on_lem, crate::proofs::ReadyLaws::clear_came, crate::proofs::ReadyLaws::clear_over))]
-fn clear(c: Controller) -> Waited
-    ensures { result ≡ clear_of 5 c }
+#[tactic(auto, using(crate::proofs::ReadyLaws::clear_over))]
+fn clear(c: &mut Controller) -> Result<(), Late>
+    ensures { waited_with (in_time result) c.new ≡ clear_of 5 c.old }
 {
-    let mut controller = c;
-    let mut left: u8 = 5;
-    while 0 < left {
-        let sensed = sense(controller);
-        let none = sensed.st0 == 0x80;
-        controller = sensed.controller;
-        if none {
-            return Waited {
-                came: true,
-                controller,
-            };
+    for _ in 0..5u8 {
+        if sense(c) == 0x80 {
+            return Ok(());
         }
-        left -= 1;
     }
-    Waited {
-        came: false,
-        controller,
-    }
+    Err(Late)
 }
 
 // Specify F0 00: 63 ticks for a step, and DMA.
 #[tactic(auto, unfolding(crate::specs::Ready::ready_of))]
-pub(crate) fn ready(c: Controller, drive: u8) -> Waited
-    ensures { result ≡ ready_of drive c }
+pub(crate) fn ready(c: &mut Controller, drive: u8) -> Result<(), Late>
+    ensures { waited_with (in_time result) c.new ≡ ready_of drive c.old }
 {
-    let cleared = clear(reset(c, drive));
-    let controller = cleared.controller;
-    if cleared.came {
-        let specified = command(controller, &[0x03, 0xF0, 0x00]);
-        return Waited {
-            came: true,
-            controller: specified,
-        };
-    }
-    cleared
+    reset(c, drive);
+    clear(c)?;
+    command(c, &[0x03, 0xF0, 0x00]);
+    Ok(())
 }

@@ -1,46 +1,67 @@
 // A block read and a block written (02 2026-01): refusals before any call, then the calls, then the seven status
-// bytes.
-ghost use Rattle.std.specs.Prelude.{◌≡◌, eqb};
-ghost use Rattle.image.specs.declared.disk.Disk.TheVariants.{Present};
-ghost use Rattle.image.specs.Disk.{InRange};
-ghost use Rattle.image.specs.Layout.{size_of};
+// bytes. A read and a write stay two: each is four steps, of which serve.rt has two loops, and says why. The record and
+// both images are three parameters, as head.rt says; the two public calls take them as they are lent.
+ghost use Rattle.std.specs.Prelude.{◌≡◌};
 ghost use Rattle.block.specs.Box.{box_of};
 ghost use Rattle.block.specs.Request.{
+  number_of,
   budget_of,
   order_bytes,
   ending_of,
+  ending_bytes,
   lost_bytes,
-  read_on,
+  reply_in,
+  asked_of,
+  read_with,
   read_at,
-  read_in,
   read_block,
-  write_on,
+  written_with,
   write_at,
-  write_in,
   write_block,
 };
 
 use crate::head::prepare;
-use crate::place::{Place, block_count, place_of};
-use crate::ready::command;
+use crate::place::{Place, block_count};
+use crate::ready::{Late, command};
 use crate::serve::{read_sector, take_status, write_sector};
 use fdc::record::Controller;
-use image::disk::{Disk, disk_in};
+use image::disk::disk_in;
 use image::layout::{Geometry, size_of};
 use image::lent::pick;
 
-#[derive(Clone, Copy)]
+// Why a request is refused, in the order of the tests.
+#[derive(Clone, Copy, Debug, PartialEq, Eq)]
+pub enum Refusal {
+    DamagedRecord,
+    NoSuchBlock,
+    WrongSize,
+}
+
+// The document's number of a refusal.
+impl From<Refusal> for u8 {
+    ghost from_gives = { λ refusal number. number ≡ number_of refusal };
+
+    fn from(refusal: Refusal) -> u8 {
+        match refusal {
+            Refusal::DamagedRecord => 4,
+            Refusal::NoSuchBlock => 1,
+            Refusal::WrongSize => 2,
+        }
+    }
+}
+
+// No Result: an end is no success by itself, its status bytes may tell of a bad block.
+#[derive(Clone, Copy, Debug, PartialEq, Eq)]
 pub enum Reply {
-    // The number, in the order of the tests: 4, 1, 2.
-    Refused(u8),
+    Refused(Refusal),
     // The status bytes as the controller gave them.
     Ended(Ending),
     // A wait's budget ran out; `BlockEnds` has that it never does.
     RanOut(Ending),
 }
 
-// ST0 ST1 ST2 C H R N.
-#[derive(Clone, Copy)]
+// ST0 ST1 ST2 C H R N, as the seven bytes come: no Id in it, since `ending_of` and the statements name each (D-41).
+#[derive(Clone, Copy, Debug, PartialEq, Eq)]
 pub struct Ending {
     pub st0: u8,
     pub st1: u8,
@@ -51,184 +72,174 @@ pub struct Ending {
     pub n: u8,
 }
 
+// A reply with the record handed back, as 01's calls give theirs.
 #[derive(Clone, Copy)]
 pub struct Served {
     pub reply: Reply,
     pub controller: Controller,
 }
 
-#[tactic(auto, using(image::proofs::LayoutLaws::product_le), unfolding(crate::specs::Request::budget_of))]
-fn budget(g: Geometry) -> u32
-    ensures { result ≡ budget_of g }
-{
-    let slots = g.slots as u32;
-    2 * (slots + 1) * (2 * slots + size_of(g.n) as u32 + 70)
-}
+impl From<[u8; 7]> for Ending {
+    ghost from_gives = { λ bytes ending. ending ≡ ending_of bytes };
 
-// Code, side and drive, C H R N, EOT, GPL, DTL.
-fn order(code: u8, drive: u8, g: Geometry, place: Place) -> [u8; 9]
-    ensures { result ≡ order_bytes code drive g place }
-{
-    [
-        code,
-        place.side % 2 * 4 + drive % 4,
-        place.cylinder,
-        place.side,
-        place.sector,
-        g.n,
-        g.slots,
-        0x1B,
-        0xFF,
-    ]
-}
-
-fn ending_of(bytes: [u8; 7]) -> Ending
-    ensures { result ≡ ending_of bytes }
-{
-    Ending {
-        st0: bytes[0],
-        st1: bytes[1],
-        st2: bytes[2],
-        c: bytes[3],
-        h: bytes[4],
-        r: bytes[5],
-        n: bytes[6],
+    fn from(bytes: [u8; 7]) -> Ending {
+        let [st0, st1, st2, c, h, r, n] = bytes;
+        Ending {
+            st0,
+            st1,
+            st2,
+            c,
+            h,
+            r,
+            n,
+        }
     }
 }
 
-fn lost(g: Geometry, place: Place) -> Ending
-    ensures { result ≡ ending_of (lost_bytes g place) }
-{
-    ending_of([
-        0x40,
-        0x10,
-        0x00,
-        place.cylinder,
-        place.side,
-        place.sector,
-        g.n,
-    ])
+impl From<Ending> for [u8; 7] {
+    ghost from_gives = { λ ending bytes. bytes ≡ ending_bytes ending };
+
+    fn from(e: Ending) -> [u8; 7] {
+        [e.st0, e.st1, e.st2, e.c, e.h, e.r, e.n]
+    }
 }
 
-// The size of the caller's slice is the sector's.
-fn fits(g: Geometry, bytes: usize) -> bool
-    ensures { result ≡ eqb bytes (size_of g.n) }
-{
-    bytes == size_of(g.n) as usize
-}
-
-fn read_on(
-    c: Controller,
-    a: &mut [u8],
-    b: &mut [u8],
+// A sector of a drive's disk.
+#[derive(Clone, Copy)]
+struct Target {
     drive: u8,
-    g: Geometry,
+    disk: Geometry,
     place: Place,
-    out: &mut [u8],
-) -> Served
-    ensures reply { result.reply
-        ≡ (read_on drive g place (box_of c a.old b.old) out.old).reply }
-    ensures controller { result.controller
-        ≡ (read_on drive g place (box_of c a.old b.old) out.old).box.controller }
-    ensures first { a.new
-        ≡ (read_on drive g place (box_of c a.old b.old) out.old).box.first }
-    ensures second { b.new
-        ≡ (read_on drive g place (box_of c a.old b.old) out.old).box.second }
-    ensures out { out.new
-        ≡ (read_on drive g place (box_of c a.old b.old) out.old).out }
-{
-    let begun = command(c, &order(0x46, drive, g, place));
-    let waited = read_sector(begun, a, b, out, budget(g));
-    let controller = waited.controller;
-    if waited.came {
-        let status = take_status(controller);
-        let results = status.bytes;
-        let rest = status.controller;
-        return Served {
-            reply: Reply::Ended(ending_of(results)),
-            controller: rest,
-        };
+}
+
+impl Target {
+    #[tactic(auto, unfolding(crate::specs::Request::budget_of))]
+    fn budget(self) -> u32
+        ensures { result ≡ budget_of self.disk }
+    {
+        let slots = u32::from(self.disk.slots);
+        2 * (slots + 1) * (2 * slots + size_of(self.disk.n) as u32 + 70)
     }
-    Served {
-        reply: Reply::RanOut(lost(g, place)),
-        controller,
+
+    // Code, side and drive, C H R N, EOT, GPL, DTL.
+    fn order(self, code: u8) -> [u8; 9]
+        ensures { result ≡ order_bytes code self.drive self.disk self.place }
+    {
+        [
+            code,
+            self.place.side % 2 * 4 + self.drive % 4,
+            self.place.cylinder,
+            self.place.side,
+            self.place.sector,
+            self.disk.n,
+            self.disk.slots,
+            0x1B,
+            0xFF,
+        ]
+    }
+
+    // What a budget that runs out would answer.
+    fn lost(self) -> Ending
+        ensures { result ≡ ending_of (lost_bytes self.disk self.place) }
+    {
+        Ending::from([
+            0x40,
+            0x10,
+            0x00,
+            self.place.cylinder,
+            self.place.side,
+            self.place.sector,
+            self.disk.n,
+        ])
+    }
+
+    fn reply(self, ended: Result<Ending, Late>) -> Reply
+        ensures { result ≡ reply_in self.disk self.place ended }
+    {
+        match ended {
+            Ok(ending) => Reply::Ended(ending),
+            Err(_) => Reply::RanOut(self.lost()),
+        }
+    }
+
+    #[tactic(auto, unfolding(crate::specs::Request::read_at, crate::specs::Request::read_on))]
+    fn read(
+        self,
+        c: &mut Controller,
+        a: &mut [u8],
+        b: &mut [u8],
+        out: &mut [u8],
+    ) -> Result<Ending, Late>
+        ensures { read_with (reply_in self.disk self.place result)
+            (box_of c.new a.new b.new) out.new
+            ≡ read_at self.drive self.disk self.place
+            (box_of c.old a.old b.old) out.old }
+    {
+        prepare(c, a, b, self.drive, self.place.cylinder)?;
+        command(c, &self.order(0x46));
+        read_sector(c, a, b, out, self.budget())?;
+        Ok(Ending::from(take_status(c)))
+    }
+
+    #[tactic(auto, unfolding(crate::specs::Request::write_at, crate::specs::Request::write_on))]
+    fn write(
+        self,
+        c: &mut Controller,
+        a: &mut [u8],
+        b: &mut [u8],
+        bytes: &[u8],
+    ) -> Result<Ending, Late>
+        ensures { written_with (reply_in self.disk self.place result)
+            (box_of c.new a.new b.new)
+            ≡ write_at self.drive self.disk self.place
+            (box_of c.old a.old b.old) bytes.now }
+    {
+        prepare(c, a, b, self.drive, self.place.cylinder)?;
+        command(c, &self.order(0x45));
+        write_sector(c, a, b, bytes, self.budget())?;
+        Ok(Ending::from(take_status(c)))
     }
 }
 
-#[tactic(auto, using(crate::proofs::BoxLaws::came_whole, crate::proofs::RequestLaws::read_there))]
-fn read_at(
-    c: Controller,
-    a: &mut [u8],
-    b: &mut [u8],
-    drive: u8,
-    g: Geometry,
-    place: Place,
-    out: &mut [u8],
-) -> Served
-    ensures reply { result.reply
-        ≡ (read_at drive g place (box_of c a.old b.old) out.old).reply }
-    ensures controller { result.controller
-        ≡ (read_at drive g place (box_of c a.old b.old) out.old).box.controller }
-    ensures first { a.new
-        ≡ (read_at drive g place (box_of c a.old b.old) out.old).box.first }
-    ensures second { b.new
-        ≡ (read_at drive g place (box_of c a.old b.old) out.old).box.second }
-    ensures out { out.new
-        ≡ (read_at drive g place (box_of c a.old b.old) out.old).out }
+// The sector that a request of a slice of so many bytes asks for, or why it is refused.
+#[tactic(auto, unfolding(crate::specs::Request::asked_of, crate::specs::Request::asked_in))]
+fn asked(c: Controller, img: &[u8], drive: u8, block: u32, size: usize) -> Result<Target, Refusal>
+    ensures { result ≡ asked_of drive block size img.now c }
 {
-    let prepared = prepare(c, a, b, drive, place.cylinder);
-    let controller = prepared.controller;
-    if prepared.came {
-        return read_on(controller, a, b, drive, g, place, out);
+    if !c.valid() {
+        return Err(Refusal::DamagedRecord);
     }
-    Served {
-        reply: Reply::RanOut(lost(g, place)),
-        controller,
+    let Some(disk) = disk_in(img) else {
+        return Err(Refusal::NoSuchBlock);
+    };
+    if block_count(disk) <= block {
+        return Err(Refusal::NoSuchBlock);
     }
+    if size != size_of(disk.n) {
+        return Err(Refusal::WrongSize);
+    }
+    let place = Place::of(disk, block);
+    Ok(Target { drive, disk, place })
 }
 
-#[tactic(auto, unfolding(crate::specs::Request::read_in))]
-fn read_in(
-    c: Controller,
+#[tactic(auto, using(crate::proofs::RequestLaws::read_asked, crate::proofs::RequestLaws::read_refused))]
+fn read_for(
+    c: &mut Controller,
     a: &mut [u8],
     b: &mut [u8],
     drive: u8,
     block: u32,
-    g: Geometry,
     out: &mut [u8],
-) -> Served
-    requires { InRange g }
-    ensures reply { result.reply
-        ≡ (read_in (Present g) drive block (box_of c a.old b.old) out.old).reply }
-    ensures controller { result.controller
-        ≡ (read_in (Present g) drive block (box_of c a.old b.old)
-        out.old).box.controller }
-    ensures first { a.new
-        ≡ (read_in (Present g) drive block (box_of c a.old b.old) out.old).box.first }
-    ensures second { b.new
-        ≡ (read_in (Present g) drive block (box_of c a.old b.old)
-        out.old).box.second }
-    ensures out { out.new
-        ≡ (read_in (Present g) drive block (box_of c a.old b.old) out.old).out }
+) -> Reply
+    ensures { read_with result (box_of c.new a.new b.new) out.new
+        ≡ read_block drive block (box_of c.old a.old b.old) out.old }
 {
-    let past = block_count(g) <= block;
-    if past {
-        return Served {
-            reply: Reply::Refused(1),
-            controller: c,
-        };
+    match asked(*c, pick(drive, a, b), drive, block, out.len()) {
+        Ok(target) => target.reply(target.read(c, a, b, out)),
+        Err(refusal) => Reply::Refused(refusal),
     }
-    let other = !fits(g, out.len());
-    if other {
-        return Served {
-            reply: Reply::Refused(2),
-            controller: c,
-        };
-    }
-    read_at(c, a, b, drive, g, place_of(g, block), out)
 }
 
-#[tactic(auto, unfolding(crate::specs::Request::read_block, crate::specs::Request::read_in))]
 pub fn read_block(
     c: Controller,
     a: &mut [u8],
@@ -248,129 +259,29 @@ pub fn read_block(
     ensures out { out.new
         ≡ (read_block drive block (box_of c a.old b.old) out.old).out }
 {
-    let damaged = !c.valid();
-    if damaged {
-        return Served {
-            reply: Reply::Refused(4),
-            controller: c,
-        };
-    }
-    match disk_in(pick(drive, a, b)) {
-        Disk::Absent => Served {
-            reply: Reply::Refused(1),
-            controller: c,
-        },
-        Disk::Present(g) => read_in(c, a, b, drive, block, g, out),
-    }
+    let mut controller = c;
+    let reply = read_for(&mut controller, a, b, drive, block, out);
+    Served { reply, controller }
 }
 
-fn write_on(
-    c: Controller,
-    a: &mut [u8],
-    b: &mut [u8],
-    drive: u8,
-    g: Geometry,
-    place: Place,
-    bytes: &[u8],
-) -> Served
-    ensures reply { result.reply
-        ≡ (write_on drive g place (box_of c a.old b.old) bytes.now).reply }
-    ensures controller { result.controller
-        ≡ (write_on drive g place (box_of c a.old b.old) bytes.now).box.controller }
-    ensures first { a.new
-        ≡ (write_on drive g place (box_of c a.old b.old) bytes.now).box.first }
-    ensures second { b.new
-        ≡ (write_on drive g place (box_of c a.old b.old) bytes.now).box.second }
-{
-    let begun = command(c, &order(0x45, drive, g, place));
-    let waited = write_sector(begun, a, b, bytes, budget(g));
-    let controller = waited.controller;
-    if waited.came {
-        let status = take_status(controller);
-        let results = status.bytes;
-        let rest = status.controller;
-        return Served {
-            reply: Reply::Ended(ending_of(results)),
-            controller: rest,
-        };
-    }
-    Served {
-        reply: Reply::RanOut(lost(g, place)),
-        controller,
-    }
-}
-
-#[tactic(auto, using(crate::proofs::BoxLaws::came_whole, crate::proofs::RequestLaws::write_there))]
-fn write_at(
-    c: Controller,
-    a: &mut [u8],
-    b: &mut [u8],
-    drive: u8,
-    g: Geometry,
-    place: Place,
-    bytes: &[u8],
-) -> Served
-    ensures reply { result.reply
-        ≡ (write_at drive g place (box_of c a.old b.old) bytes.now).reply }
-    ensures controller { result.controller
-        ≡ (write_at drive g place (box_of c a.old b.old) bytes.now).box.controller }
-    ensures first { a.new
-        ≡ (write_at drive g place (box_of c a.old b.old) bytes.now).box.first }
-    ensures second { b.new
-        ≡ (write_at drive g place (box_of c a.old b.old) bytes.now).box.second }
-{
-    let prepared = prepare(c, a, b, drive, place.cylinder);
-    let controller = prepared.controller;
-    if prepared.came {
-        return write_on(controller, a, b, drive, g, place, bytes);
-    }
-    Served {
-        reply: Reply::RanOut(lost(g, place)),
-        controller,
-    }
-}
-
-#[tactic(auto, unfolding(crate::specs::Request::write_in))]
-fn write_in(
-    c: Controller,
+#[tactic(auto, using(crate::proofs::RequestLaws::write_asked, crate::proofs::RequestLaws::write_refused))]
+fn write_for(
+    c: &mut Controller,
     a: &mut [u8],
     b: &mut [u8],
     drive: u8,
     block: u32,
-    g: Geometry,
     bytes: &[u8],
-) -> Served
-    requires { InRange g }
-    ensures reply { result.reply
-        ≡ (write_in (Present g) drive block (box_of c a.old b.old) bytes.now).reply }
-    ensures controller { result.controller
-        ≡ (write_in (Present g) drive block (box_of c a.old b.old)
-        bytes.now).box.controller }
-    ensures first { a.new
-        ≡ (write_in (Present g) drive block (box_of c a.old b.old)
-        bytes.now).box.first }
-    ensures second { b.new
-        ≡ (write_in (Present g) drive block (box_of c a.old b.old)
-        bytes.now).box.second }
+) -> Reply
+    ensures { written_with result (box_of c.new a.new b.new)
+        ≡ write_block drive block (box_of c.old a.old b.old) bytes.now }
 {
-    let past = block_count(g) <= block;
-    if past {
-        return Served {
-            reply: Reply::Refused(1),
-            controller: c,
-        };
+    match asked(*c, pick(drive, a, b), drive, block, bytes.len()) {
+        Ok(target) => target.reply(target.write(c, a, b, bytes)),
+        Err(refusal) => Reply::Refused(refusal),
     }
-    let other = !fits(g, bytes.len());
-    if other {
-        return Served {
-            reply: Reply::Refused(2),
-            controller: c,
-        };
-    }
-    write_at(c, a, b, drive, g, place_of(g, block), bytes)
 }
 
-#[tactic(auto, unfolding(crate::specs::Request::write_block, crate::specs::Request::write_in))]
 pub fn write_block(
     c: Controller,
     a: &mut [u8],
@@ -388,18 +299,7 @@ pub fn write_block(
     ensures second { b.new
         ≡ (write_block drive block (box_of c a.old b.old) bytes.now).box.second }
 {
-    let damaged = !c.valid();
-    if damaged {
-        return Served {
-            reply: Reply::Refused(4),
-            controller: c,
-        };
-    }
-    match disk_in(pick(drive, a, b)) {
-        Disk::Absent => Served {
-            reply: Reply::Refused(1),
-            controller: c,
-        },
-        Disk::Present(g) => write_in(c, a, b, drive, block, g, bytes),
-    }
+    let mut controller = c;
+    let reply = write_for(&mut controller, a, b, drive, block, bytes);
+    Served { reply, controller }
 }

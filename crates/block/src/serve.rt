@@ -1,185 +1,126 @@
 // The FIFO served (02 2026-01): after each tick DMA cycles while DRQ is on and bytes are left, TC with the last; then
 // the seven result bytes.
+// A read's two loops and a write's stay apart: one over a trait would be longer, as each slice needs an impl with ghost
+// members for its cycle, and a lemma back to `reads_of` or `writes_of`. The record and both images are three
+// parameters, as head.rt says.
 ghost use Rattle.std.specs.Prelude.{◌≡◌, ◌-◌, length, replicate};
-ghost use Rattle.block.specs.Box.{box_of};
-ghost use Rattle.block.specs.Serve.{taking, takes_of, reads_of, giving, gives_of, writes_of, status_from};
+ghost use Rattle.block.specs.Box.{box_of, came_with};
+ghost use Rattle.block.specs.Ready.{in_time};
+ghost use Rattle.block.specs.Serve.{
+  taking,
+  takes_of,
+  came_read,
+  reads_of,
+  giving,
+  gives_of,
+  writes_of,
+  status_with,
+  status_from,
+};
 
-use crate::ready::{FIFO, Waited};
+use crate::ready::{Late, result_byte};
 use fdc::answer::{Answer, value};
 use fdc::record::Controller;
 
-// After some cycles: the last one's answer, and how many bytes have passed.
+// After some cycles: the last one's answer, and how many bytes have passed. No iterator: DRQ going off ends the cycles,
+// and they go on from there after the next tick. It is public, as its module, for block_demands, whose laws name it.
 #[derive(Clone, Copy)]
 pub struct Passed {
     pub answer: Answer,
     pub done: usize,
 }
 
-// The seven result bytes, taken.
-#[derive(Clone, Copy)]
-pub struct Status {
-    pub bytes: [u8; 7],
-    pub controller: Controller,
-}
-
-#[tactic(auto, using(crate::proofs::ServeLaws::take_on, crate::proofs::ServeLaws::take_off, crate::proofs::ServeLaws::take_over, crate::proofs::ServeLaws::taken_parts))]
+#[tactic(auto, using(crate::proofs::ServeLaws::take_on, crate::proofs::ServeLaws::take_off, crate::proofs::ServeLaws::take_over))]
 fn take_bytes(answer: Answer, out: &mut [u8], done: usize) -> Passed
-    ensures answer { result.answer
-        ≡ (takes_of (length out.old - done) (taking answer out.old done)).answer }
-    ensures done { result.done
-        ≡ (takes_of (length out.old - done) (taking answer out.old done)).done }
-    ensures out { out.new
-        ≡ (takes_of (length out.old - done) (taking answer out.old done)).out }
+    ensures { taking result.answer out.new result.done
+        ≡ takes_of (length out.old - done) (taking answer out.old done) }
 {
-    let mut last = answer;
-    let mut k = done;
-    while k < out.len() {
-        let off = !last.drq;
-        if off {
-            return Passed {
-                answer: last,
-                done: k,
-            };
-        }
-        let controller = last.controller;
-        let next = controller.dma_read(out.len() - k == 1);
-        let reply = next.reply;
-        out[k] = value(reply);
-        last = next;
-        k += 1;
+    let mut answer = answer;
+    let mut done = done;
+    while answer.drq && done < out.len() {
+        answer = answer.controller.dma_read(out.len() - done == 1);
+        out[done] = value(answer.reply);
+        done += 1;
     }
-    Passed {
-        answer: last,
-        done: k,
-    }
+    Passed { answer, done }
 }
 
 // Ticks until INT, the bytes asked for taken after each.
-#[tactic(auto, using(crate::proofs::BoxLaws::image_length, crate::proofs::ServeLaws::taken_length, crate::proofs::ServeLaws::taken_whole, crate::proofs::ServeLaws::read_parts, crate::proofs::ServeLaws::read_on_lem, crate::proofs::ServeLaws::read_came, crate::proofs::ServeLaws::read_over))]
+#[tactic(auto, using(crate::proofs::ServeLaws::taken_length, crate::proofs::ServeLaws::read_on_lem, crate::proofs::ServeLaws::read_over))]
 pub(crate) fn read_sector(
-    c: Controller,
+    c: &mut Controller,
     a: &mut [u8],
     b: &mut [u8],
     out: &mut [u8],
     budget: u32,
-) -> Waited
-    ensures came { result.came
-        ≡ (reads_of budget (box_of c a.old b.old) out.old 0).came }
-    ensures controller { result.controller
-        ≡ (reads_of budget (box_of c a.old b.old) out.old 0).box.controller }
-    ensures first { a.new
-        ≡ (reads_of budget (box_of c a.old b.old) out.old 0).box.first }
-    ensures second { b.new
-        ≡ (reads_of budget (box_of c a.old b.old) out.old 0).box.second }
-    ensures out { out.new
-        ≡ (reads_of budget (box_of c a.old b.old) out.old 0).out }
+) -> Result<(), Late>
+    ensures { came_read (in_time result) (box_of c.new a.new b.new) out.new
+        ≡ reads_of budget (box_of c.old a.old b.old) out.old 0 }
 {
-    let mut controller = c;
     let mut done = 0;
-    let mut left = budget;
-    while 0 < left {
-        let answer = controller.tick(a, b);
+    for _ in 0..budget {
+        let answer = c.tick(a, b);
         if answer.int {
-            let rest = answer.controller;
-            return Waited {
-                came: true,
-                controller: rest,
-            };
+            *c = answer.controller;
+            return Ok(());
         }
         let passed = take_bytes(answer, out, done);
-        let last = passed.answer;
-        controller = last.controller;
+        *c = passed.answer.controller;
         done = passed.done;
-        left -= 1;
     }
-    Waited {
-        came: false,
-        controller,
-    }
+    Err(Late)
 }
 
-#[tactic(auto, using(crate::proofs::ServeLaws::give_on, crate::proofs::ServeLaws::give_off, crate::proofs::ServeLaws::give_over, crate::proofs::ServeLaws::given_parts))]
+#[tactic(auto, using(crate::proofs::ServeLaws::give_on, crate::proofs::ServeLaws::give_off, crate::proofs::ServeLaws::give_over))]
 fn give_bytes(answer: Answer, bytes: &[u8], done: usize) -> Passed
-    ensures answer { result.answer
-        ≡ (gives_of (length bytes.now - done) bytes.now (giving answer done)).answer }
-    ensures done { result.done
-        ≡ (gives_of (length bytes.now - done) bytes.now (giving answer done)).done }
+    ensures { result
+        ≡ gives_of (length bytes.now - done) bytes.now (giving answer done) }
 {
-    let mut last = answer;
-    let mut k = done;
-    while k < bytes.len() {
-        let off = !last.drq;
-        if off {
-            return Passed {
-                answer: last,
-                done: k,
-            };
-        }
-        let controller = last.controller;
-        last = controller.dma_write(bytes[k], bytes.len() - k == 1);
-        k += 1;
+    let mut answer = answer;
+    let mut done = done;
+    while answer.drq && done < bytes.len() {
+        answer = answer
+            .controller
+            .dma_write(bytes[done], bytes.len() - done == 1);
+        done += 1;
     }
-    Passed {
-        answer: last,
-        done: k,
-    }
+    Passed { answer, done }
 }
 
 // Ticks until INT, the bytes asked for given after each.
-#[tactic(auto, using(crate::proofs::BoxLaws::image_length, crate::proofs::BoxLaws::came_parts, crate::proofs::ServeLaws::given_whole, crate::proofs::ServeLaws::write_on_lem, crate::proofs::ServeLaws::write_came, crate::proofs::ServeLaws::write_over))]
+#[tactic(auto, using(crate::proofs::ServeLaws::write_on_lem, crate::proofs::ServeLaws::write_over))]
 pub(crate) fn write_sector(
-    c: Controller,
+    c: &mut Controller,
     a: &mut [u8],
     b: &mut [u8],
     bytes: &[u8],
     budget: u32,
-) -> Waited
-    ensures came { result.came
-        ≡ (writes_of budget (box_of c a.old b.old) bytes.now 0).came }
-    ensures controller { result.controller
-        ≡ (writes_of budget (box_of c a.old b.old) bytes.now 0).box.controller }
-    ensures first { a.new
-        ≡ (writes_of budget (box_of c a.old b.old) bytes.now 0).box.first }
-    ensures second { b.new
-        ≡ (writes_of budget (box_of c a.old b.old) bytes.now 0).box.second }
+) -> Result<(), Late>
+    ensures { came_with (in_time result) (box_of c.new a.new b.new)
+        ≡ writes_of budget (box_of c.old a.old b.old) bytes.now 0 }
 {
-    let mut controller = c;
     let mut done = 0;
-    let mut left = budget;
-    while 0 < left {
-        let answer = controller.tick(a, b);
+    for _ in 0..budget {
+        let answer = c.tick(a, b);
         if answer.int {
-            let rest = answer.controller;
-            return Waited {
-                came: true,
-                controller: rest,
-            };
+            *c = answer.controller;
+            return Ok(());
         }
         let passed = give_bytes(answer, bytes, done);
-        let last = passed.answer;
-        controller = last.controller;
+        *c = passed.answer.controller;
         done = passed.done;
-        left -= 1;
     }
-    Waited {
-        came: false,
-        controller,
-    }
+    Err(Late)
 }
 
+// The seven result bytes, taken.
 #[tactic(auto, using(crate::proofs::ServeLaws::status_on, crate::proofs::ServeLaws::status_over))]
-pub(crate) fn take_status(c: Controller) -> Status
-    ensures { result ≡ status_from 7 0 (replicate 7 0) c }
+pub(crate) fn take_status(c: &mut Controller) -> [u8; 7]
+    ensures { status_with result c.new ≡ status_from 7 0 (replicate 7 0) c.old }
 {
-    let mut controller = c;
     let mut bytes = [0u8; 7];
-    let mut k = 0;
-    while k < 7 {
-        let answer = controller.read_port(FIFO);
-        let reply = answer.reply;
-        bytes[k] = value(reply);
-        controller = answer.controller;
-        k += 1;
+    for byte in bytes.iter_mut() {
+        *byte = result_byte(c);
     }
-    Status { bytes, controller }
+    bytes
 }

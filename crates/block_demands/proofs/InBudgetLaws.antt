@@ -1,11 +1,11 @@
 -- The wait for a data command's end does not run out (02 2026-01): the service's budget is the bound of 01 End.
 -- Assumes nothing.
+use Rattle.std.specs.Prelude.{Some}
 use Prim.Native.Nat.{ℕ, ◌<◌}
 use mathlib.Core.Bool.{Bool, true}
 use mathlib.Core.List.{List}
 use mathlib.Core.Logic.{inl, inr}
 use mathlib.Core.Path.{◌≡◌, refl, sym, ap, ◌∙◌}
-use Rattle.image.specs.declared.disk.Disk.TheVariants.{Present}
 use Rattle.image.specs.declared.layout.Geometry.{Geometry}
 use Rattle.image.specs.Disk.{disk_in}
 use Rattle.sectors.specs.declared.order.Pass.{Pass}
@@ -42,7 +42,7 @@ pub record InBudget (end : Bool) (u : Box) : Type 0 where
 
 module _ (pass : Pass) (drive : ℕ) (g : Geometry) (place : Place) (low : drive < 2) (s : Box)
     (quiet : Quiet s.controller) (starts : s.controller.phase ≡ Starting (order_of pass drive g place))
-    (disk : disk_in (image_of drive s) ≡ Present g) (end : Bool) (u : Box) (calls : List Call)
+    (disk : disk_in (image_of drive s) ≡ Some g) (end : Bool) (u : Box) (calls : List Call)
     (course : Course drive (budget_of g) s end u calls) where
   pub in_budget : InBudget end u
   in_budget = go course.ends

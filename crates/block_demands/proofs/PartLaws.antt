@@ -1,6 +1,7 @@
 -- First parts of a request's calls (02 2026-01): what holds of all of them holds of the first ones, and calls that are
 -- handed no record at work, or another drive's, change no image.
 -- Assumes nothing.
+use Rattle.std.specs.Prelude.{None}
 use Prim.Native.Nat.{ℕ}
 use native.Mathlib.Omega.{arith}
 use mathlib.Core.Bool.{Bool, true, false, ◌&&◌, cond}
@@ -8,7 +9,6 @@ use mathlib.Core.List.{List, [], ◌∷◌, ◌++◌, append-nil, append_assoc, 
 use mathlib.Core.Logic.{◌⊎◌, inl, inr}
 use mathlib.Core.Path.{◌≡◌, refl, sym, ap, ◌∙◌, subst}
 use lib.Dec.{eqb}
-use Rattle.image.specs.declared.lent.Effect.TheVariants.{Nothing}
 use Rattle.image.specs.Lent.{pick_of, stored_as}
 use Rattle.image.proofs.TestLaws.{by_test}
 use Rattle.fdc.specs.declared.record.Controller.{Controller}
@@ -68,7 +68,7 @@ pub after_picked : (drive : ℕ) (calls : List Call) (s : Box)
 after_picked drive calls s = λ i. pick_of drive (after_first calls s i) (after_second calls s i)
 
 -- a tick that stores nothing, or in another image
-kept_same : (k d : ℕ) (img : List ℕ) → stored_as d k Nothing img ≡ img
+kept_same : (k d : ℕ) (img : List ℕ) → stored_as d k None img ≡ img
 kept_same k d img = by_test (eqb d k) (λ (l : List ℕ). l ≡ img) _ _ (λ t. refl) (λ t. refl)
 
 idle_tick : (k : ℕ) (a b img : List ℕ) (c : Controller) → at_work c.phase ≡ false → image_after k a b c img ≡ img

@@ -1,12 +1,12 @@
 -- A block read from its first call to its last (02 2026-01).
 -- Assumes nothing.
+use Rattle.std.specs.Prelude.{Some}
 use Prim.Native.Nat.{ℕ, ◌<◌}
 use native.Mathlib.Omega.{arith}
 use mathlib.Core.Bool.{Bool, true, cond, false≢true}
 use mathlib.Core.List.{List}
 use mathlib.Core.Path.{◌≡◌, refl, sym, ap, ◌∙◌, subst}
 use lib.ListN.{replicate}
-use Rattle.image.specs.declared.disk.Disk.TheVariants.{Present}
 use Rattle.image.specs.declared.layout.Geometry.{Geometry}
 use Rattle.image.specs.Disk.{disk_in}
 use Rattle.image.specs.Layout.{size_of}
@@ -73,7 +73,7 @@ module _ (drive block : ℕ) (s : Box) (g : Geometry) (out : List ℕ) (asked : 
   pub begun : Begun Read drive g place p.controller begins
   begun = read_begun drive g place (small drive block s g out asked) p.controller (here drive block s g out asked)
 
-  pub disk : disk_in (pick_of drive a b) ≡ Present g
+  pub disk : disk_in (pick_of drive a b) ≡ Some g
   disk = disk_there drive block s g out asked
 
   pub low : drive < 4

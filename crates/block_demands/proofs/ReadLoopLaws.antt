@@ -1,5 +1,6 @@
 -- The loop that serves a read (block/specs/Serve: reads_of), as calls of the command (02 2026-01).
 -- Assumes nothing.
+use Rattle.std.specs.Prelude.{Some}
 use Prim.Native.Nat.{ℕ, zero, suc, ◌+◌, ◌-◌, ◌≤◌, ◌<◌}
 use native.Mathlib.Omega.{arith}
 use mathlib.Core.Bool.{Bool, true, false, cond, and-false}
@@ -9,7 +10,6 @@ use mathlib.Core.Path.{◌≡◌, refl, sym, ap, ◌∙◌, subst}
 use lib.Dec.{eqb}
 use lib.ListN.{length, set, length-append}
 use borrow.Author.Tests.{eq-eqb, ne_eqb}
-use Rattle.image.specs.declared.disk.Disk.TheVariants.{Present}
 use Rattle.image.specs.declared.layout.Geometry.{Geometry}
 use Rattle.image.specs.declared.slot.Id.{Id}
 use Rattle.image.specs.Disk.{disk_in}
@@ -77,7 +77,7 @@ same_tc zero len L e = sym (eq-eqb (len + 1) L (omega arith))
 same_tc (suc m) len L e = ne_eqb (suc m) 0 (λ x. omega arith) ∙ sym (ne_eqb (len + 1) L (λ x. omega arith))
 
 module _ (order : Order) (transfer : Transfer) (id : Id) (a b : List ℕ) (g : Geometry)
-    (disk : disk_in (pick_of order.drive a b) ≡ Present g) (job : order.job ≡ Move transfer id)
+    (disk : disk_in (pick_of order.drive a b) ≡ Some g) (job : order.job ≡ Move transfer id)
     (rd : transfer.pass ≡ Read) (low : order.drive < 4) (cylinder L : ℕ) (out₀ : List ℕ) (size : length out₀ ≡ L)
     -- a tick of a read changes neither image
     (keeps : (c : Controller) (t : Taken) → served.Ready order transfer id a b g disk job rd low cylinder L c t

@@ -31,8 +31,7 @@ use Rattle.answers.proofs.AcceptLaws.{settings}
 use Rattle.answers.proofs.RefusalLaws.{below}
 use Rattle.answers.proofs.RegisterLaws.{after_dor}
 use Rattle.answers.proofs.ResetTableLaws.{Alike}
-use Rattle.block.specs.declared.ready.Waited.{Waited}
-use Rattle.block.specs.Ready.{weight_of, dor_for, shown_dor, reset_for, command_of, clear_of, specified, ready_of}
+use Rattle.block.specs.Ready.{weight_of, dor_for, shown_dor, reset_for, command_of, Waited, clear_of, specified, ready_of}
 use Rattle.block_demands.specs.Made.{Rests}
 use Rattle.block_demands.proofs.LedLaws.{Does, does_join, does_quiet, AllAtFifo, fifo_does}
 use Rattle.block_demands.proofs.SenseLaws.{Rested, rested_ready, Cleared, clears}

@@ -1,5 +1,6 @@
 -- A request from its first call to its last (02 2026-01): what each of its three parts comes to.
 -- Assumes nothing.
+use Rattle.std.specs.Prelude.{Some}
 use Prim.Native.Nat.{ℕ, ◌/◌, ◌%◌, ◌<◌, ◌≤◌}
 use native.Mathlib.Omega.{arith}
 use mathlib.Core.Bool.{Bool, true, false}
@@ -8,7 +9,6 @@ use mathlib.Core.Logic.{inl, inr}
 use mathlib.Core.Path.{◌≡◌, refl, sym, ap, ◌∙◌}
 use lib.ListN.{length, replicate}
 use borrow.Author.Tests.{lt-leb, eq-eqb, eqb-false}
-use Rattle.image.specs.declared.disk.Disk.TheVariants.{Present}
 use Rattle.image.specs.declared.layout.Geometry.{Geometry}
 use Rattle.image.specs.Disk.{disk_in, InRange}
 use Rattle.image.specs.Layout.{size_of}
@@ -129,7 +129,7 @@ module _ (drive block : ℕ) (s : Box) (g : Geometry) (slice : List ℕ) (asked 
       let p = ready_there.1 in
       λ i. pick_of drive (p.first i) (p.second i)
 
-  pub disk_there : disk_in (image_of drive waiting) ≡ Present g
+  pub disk_there : disk_in (image_of drive waiting) ≡ Some g
   disk_there = rw image_there asked.disk
 
 -- with a result waiting it is not held in reset

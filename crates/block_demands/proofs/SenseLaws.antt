@@ -36,8 +36,7 @@ use Rattle.answers.proofs.CommandLaws.{run_sense, lowest_is, none_is, sense_none
 use Rattle.answers.proofs.ReadsOutLaws.{reads_out}
 use Rattle.answers.proofs.RefusalLaws.{valid_no_fault}
 use Rattle.answers.proofs.ResetTableLaws.{Alike}
-use Rattle.block.specs.declared.ready.Waited.{Waited}
-use Rattle.block.specs.Ready.{first_sensed, sense_of, clear_of}
+use Rattle.block.specs.Ready.{first_sensed, sense_of, Waited, clear_of}
 use Rattle.block_demands.proofs.LedLaws.{Does, does_join, does_quiet, AllAtFifo, fifo_does}
 
 -- it waits for a command, with no byte of one, and is not held in reset

@@ -1,12 +1,12 @@
 -- A block written, from its first call to its last (02 2026-01).
 -- Assumes nothing.
+use Rattle.std.specs.Prelude.{Some}
 use Prim.Native.Nat.{ℕ, ◌<◌}
 use native.Mathlib.Omega.{arith}
 use mathlib.Core.Bool.{Bool, cond, false≢true}
 use mathlib.Core.List.{List}
 use mathlib.Core.Path.{◌≡◌, refl, ap, ◌∙◌, subst}
 use lib.ListN.{length, replicate}
-use Rattle.image.specs.declared.disk.Disk.TheVariants.{Present}
 use Rattle.image.specs.declared.layout.Geometry.{Geometry}
 use Rattle.image.specs.Disk.{disk_in}
 use Rattle.chip.specs.declared.fifo.Fifo.{Fifo}
@@ -60,7 +60,7 @@ module _ (drive block : ℕ) (s : Box) (g : Geometry) (bytes : List ℕ) (asked 
   begun =
       write_begun drive g place (small drive block s g bytes asked) p.controller (here drive block s g bytes asked)
 
-  pub disk : disk_in old ≡ Present g
+  pub disk : disk_in old ≡ Some g
   disk = disk_there drive block s g bytes asked
 
   pub sector : place.sector < 256

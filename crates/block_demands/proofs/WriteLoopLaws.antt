@@ -1,5 +1,6 @@
 -- The loop that serves a write (block/specs/Serve: writes_of), as calls of the command (02 2026-01).
 -- Assumes nothing.
+use Rattle.std.specs.Prelude.{Some}
 use Prim.Native.Nat.{ℕ, zero, suc, ◌+◌, ◌-◌, ◌≤◌, ◌<◌}
 use native.Mathlib.Omega.{arith}
 use mathlib.Core.Bool.{Bool, true, false, ◌||◌, cond, true≢false, false≢true, and-true}
@@ -9,7 +10,6 @@ use mathlib.Core.Path.{◌≡◌, refl, sym, ap, ◌∙◌, subst}
 use lib.Dec.{eqb}
 use lib.ListN.{length, get_or, take, length-append}
 use borrow.Author.Tests.{eqb-true, eq-eqb}
-use Rattle.image.specs.declared.disk.Disk.TheVariants.{Present}
 use Rattle.image.specs.declared.layout.Geometry.{Geometry}
 use Rattle.image.specs.declared.slot.Id.{Id}
 use Rattle.image.specs.Disk.{disk_in}
@@ -104,7 +104,7 @@ module _ (byte : ℕ) (tc : Bool) (c : Controller) (q : Quiet c) (line : drq_of 
     ap (λ (x : Answer). x.drq) gives_answer ∙ sym (ap (λ (x : Answer). drq_of x.controller) gives_answer),
   )
 
-module _ (order : Order) (transfer : Transfer) (id : Id) (old : List ℕ) (g : Geometry) (disk : disk_in old ≡ Present g)
+module _ (order : Order) (transfer : Transfer) (id : Id) (old : List ℕ) (g : Geometry) (disk : disk_in old ≡ Some g)
     (job : order.job ≡ Move transfer id) (wr : transfer.pass ≡ Write) (hr : id.r < 256) (he : transfer.eot < 256)
     (low : order.drive < 2) (cylinder : ℕ) (bytes : List ℕ) where
   abbrev drive : ℕ

@@ -1,12 +1,12 @@
 -- A block written (02 2026-01; specs/BlockWrites): its command finishes one sector, which is the block's slot.
 -- Assumes nothing.
+use Rattle.std.specs.Prelude.{Some}
 use Prim.Native.Nat.{ℕ, zero, suc, ◌+◌, ◌*◌, ◌≤◌}
 use native.Mathlib.Omega.{arith}
 use mathlib.Core.Bool.{true, false, false≢true}
 use mathlib.Core.List.{List, [], ◌∷◌, ◌++◌}
 use mathlib.Core.Path.{◌≡◌, refl, sym, ap, ◌∙◌, subst}
 use lib.ListN.{length}
-use Rattle.image.specs.declared.disk.Disk.TheVariants.{Present}
 use Rattle.image.specs.declared.layout.Geometry.{Geometry}
 use Rattle.image.specs.Disk.{disk_in}
 use Rattle.image.specs.Lent.{pick_of}
@@ -93,7 +93,7 @@ module _ (drive block : ℕ) (s : Box) (g : Geometry) (bytes : List ℕ) (asked 
   quiet : Quiet begins
   quiet = (done.begun drive block s g bytes asked).lit.quiet
 
-  disk : disk_in old ≡ Present g
+  disk : disk_in old ≡ Some g
   disk = done.disk drive block s g bytes asked
 
   old_is : old ≡ image_of drive s

@@ -1,7 +1,6 @@
 -- What a request of the block service asks for (02 2026-01): a block of a disk, its address and its slot.
 -- Assumes nothing.
-use Rattle.std.specs.Prelude.{ℕ, ◌<◌, true, false, List, ◌≡◌, length, get_or}
-use Rattle.image.specs.declared.disk.Disk.TheVariants.{Present}
+use Rattle.std.specs.Prelude.{ℕ, ◌<◌, true, false, List, ◌≡◌, length, get_or, Some}
 use Rattle.image.specs.declared.layout.Geometry.{Geometry}
 use Rattle.image.specs.declared.slot.Id.{Id}
 use Rattle.image.specs.Disk.{disk_in}
@@ -32,7 +31,7 @@ pub record AnyValid (c : Controller) : Type 0 where
 pub record Asked (drive block : ℕ) (s : Box) (g : Geometry) (slice : List ℕ) : Type 0 where
   pub any : AnyValid s.controller
   pub drive_is : drive < 2
-  pub disk : disk_in (image_of drive s) ≡ Present g
+  pub disk : disk_in (image_of drive s) ≡ Some g
   pub within : block < blocks_of g
   pub size : length slice ≡ size_of g.n
 

@@ -2,13 +2,14 @@
 -- call, step or store, with record, images and the caller's slice as handed in. And no budget runs out: what is not
 -- refused ends with the controller's seven status bytes.
 -- Assumes nothing.
-use Rattle.std.specs.Prelude.{ℕ, ◌<◌, ◌≤◌, true, false, List, ◌≡◌, length}
-use Rattle.image.specs.declared.disk.Disk.TheVariants.{Absent, Present}
+use Rattle.std.specs.Prelude.{ℕ, ◌<◌, ◌≤◌, true, false, List, ◌≡◌, length, None, Some}
 use Rattle.image.specs.declared.layout.Geometry.{Geometry}
 use Rattle.image.specs.Disk.{disk_in}
 use Rattle.image.specs.Layout.{size_of}
 use Rattle.fdc.specs.Record.{valid_of}
 use Rattle.block.specs.declared.request.Ending.{Ending}
+use Rattle.block.specs.declared.request.Refusal.{Refusal}
+use Rattle.block.specs.declared.request.Refusal.TheVariants.{DamagedRecord, NoSuchBlock, WrongSize}
 use Rattle.block.specs.declared.request.Reply.TheVariants.{Refused, Ended}
 use Rattle.block.specs.Box.{Box}
 use Rattle.block.specs.Place.{blocks_of}
@@ -19,28 +20,28 @@ use Rattle.block_demands.specs.Asked.{image_of, Asked}
 -- end
 pub data NoBlock (drive block : ℕ) (s : Box) : Type 0 where
   no_drive_law : 2 ≤ drive → NoBlock drive block s
-  no_disk : disk_in (image_of drive s) ≡ Absent → NoBlock drive block s
-  past_end : (g : Geometry) → disk_in (image_of drive s) ≡ Present g → blocks_of g ≤ block → NoBlock drive block s
+  no_disk : disk_in (image_of drive s) ≡ None → NoBlock drive block s
+  past_end : (g : Geometry) → disk_in (image_of drive s) ≡ Some g → blocks_of g ≤ block → NoBlock drive block s
 
 -- the slice is not B bytes
 pub record OtherSize (drive block : ℕ) (s : Box) (slice : List ℕ) : Type 0 where
   pub g : Geometry
-  pub disk : disk_in (image_of drive s) ≡ Present g
+  pub disk : disk_in (image_of drive s) ≡ Some g
   pub within : block < blocks_of g
   pub other : length slice ≡ size_of g.n → ⊥
 
--- which refusal a request earns, if any
-pub data Earns (drive block : ℕ) (s : Box) (slice : List ℕ) : ℕ → Type 0 where
-  damaged : valid_of s.controller ≡ false → Earns drive block s slice 4
-  no_block : valid_of s.controller ≡ true → NoBlock drive block s → Earns drive block s slice 1
-  other_size : valid_of s.controller ≡ true → drive < 2 → OtherSize drive block s slice → Earns drive block s slice 2
+-- which refusal a request earns, if any; `number_of` (block/specs/Request) has their numbers
+pub data Earns (drive block : ℕ) (s : Box) (slice : List ℕ) : Refusal → Type 0 where
+  damaged : valid_of s.controller ≡ false → Earns drive block s slice DamagedRecord
+  no_block : valid_of s.controller ≡ true → NoBlock drive block s → Earns drive block s slice NoSuchBlock
+  other_size : valid_of s.controller ≡ true → drive < 2 → OtherSize drive block s slice → Earns drive block s slice WrongSize
 
 -- an earned refusal is the reply, and everything else is as it was handed in
 pub record BlockRefusals : Type 0 where
-  pub read : (drive block : ℕ) (s : Box) (out : List ℕ) (n : ℕ) → Earns drive block s out n
-      → read_block drive block s out ≡ read_with (Refused n) s out
-  pub write : (drive block : ℕ) (s : Box) (bytes : List ℕ) (n : ℕ) → Earns drive block s bytes n
-      → write_block drive block s bytes ≡ written_with (Refused n) s
+  pub read : (drive block : ℕ) (s : Box) (out : List ℕ) (r : Refusal) → Earns drive block s out r
+      → read_block drive block s out ≡ read_with (Refused r) s out
+  pub write : (drive block : ℕ) (s : Box) (bytes : List ℕ) (r : Refusal) → Earns drive block s bytes r
+      → write_block drive block s bytes ≡ written_with (Refused r) s
 
 -- every wait of the service ends within its budget, from any valid record, on any image that fits: so the reply is
 -- neither a refusal nor that a budget ran out

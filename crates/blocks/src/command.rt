@@ -1,8 +1,9 @@
 // The command line: a word for what is to be done, an image, and numbers.
-use files::fault::{argument_fault, fault};
-use files::word::{PATH, argument, argument_count, same};
+use files::fault::fault;
+use files::program::Program;
+use files::word::{PATH, argument, argument_count};
 use log_lines::words::Word;
-use script::decimal::{Decimal, decimal_in};
+use script::decimal::decimal_in;
 use std::env::Env;
 
 #[derive(Clone, Copy)]
@@ -13,77 +14,62 @@ pub enum Command {
     Write,
     Export,
     Import,
-    None,
 }
 
-fn command_in(word: &[u8]) -> Command {
-    if same(word, b"new") {
-        return Command::New;
+impl Command {
+    // How many words its line has, the program's own among them.
+    fn words(self) -> usize {
+        match self {
+            Command::New => 7,
+            Command::Read | Command::Write => 4,
+            Command::Count | Command::Export | Command::Import => 3,
+        }
     }
-    if same(word, b"count") {
-        return Command::Count;
-    }
-    if same(word, b"read") {
-        return Command::Read;
-    }
-    if same(word, b"write") {
-        return Command::Write;
-    }
-    if same(word, b"export") {
-        return Command::Export;
-    }
-    if same(word, b"import") {
-        return Command::Import;
-    }
-    Command::None
 }
 
-// How many words its line has, the program's own among them.
-fn words(command: Command) -> usize {
-    match command {
-        Command::New => 7,
-        Command::Count => 3,
-        Command::Read => 4,
-        Command::Write => 4,
-        Command::Export => 3,
-        Command::Import => 3,
-        Command::None => 0,
+fn command_in(word: &[u8]) -> Option<Command> {
+    match word {
+        b"new" => Some(Command::New),
+        b"count" => Some(Command::Count),
+        b"read" => Some(Command::Read),
+        b"write" => Some(Command::Write),
+        b"export" => Some(Command::Export),
+        b"import" => Some(Command::Import),
+        _ => None,
     }
 }
 
 // The command of the line that the program was called by, where it has its words.
-pub fn asked(rt: &impl Env) -> Command {
+pub fn asked(rt: &impl Env) -> Option<Command> {
     let mut word = [0u8; PATH];
-    let n = argument(rt, 1, &mut word);
-    let found = command_in(&word[..n]);
-    if words(found) == argument_count(rt) {
-        return found;
-    }
-    Command::None
+    command_in(argument(rt, 1, &mut word)).filter(|command| command.words() == argument_count(rt))
 }
 
+const USAGE: &[u8] = b"usage: blocks new IMAGE CYLINDERS HEADS SECTORS N
+       blocks count IMAGE
+       blocks read IMAGE BLOCK
+       blocks write IMAGE BLOCK
+       blocks export IMAGE
+       blocks import IMAGE
+";
+
 pub fn usage(err: &impl Print) {
-    fault(err, b"usage: blocks new IMAGE CYLINDERS HEADS SECTORS N\n");
-    fault(err, b"       blocks count IMAGE\n");
-    fault(err, b"       blocks read IMAGE BLOCK\n");
-    fault(err, b"       blocks write IMAGE BLOCK\n");
-    fault(err, b"       blocks export IMAGE\n");
-    fault(err, b"       blocks import IMAGE\n");
+    fault(err, USAGE);
 }
 
 // The number that an argument says; what is none is named.
-pub fn number(rt: &impl Env, err: &impl Print, k: usize) -> Decimal {
+pub fn number<R: Env, E: Print>(program: &Program<'_, R, E>, k: usize) -> Option<u32> {
     let mut word = [0u8; PATH];
-    let n = argument(rt, k, &mut word);
-    let decimal = decimal_in(&word[..n], Word { start: 0, stop: n });
-    if let Decimal::None = decimal {
-        argument_fault(
-            rt,
-            err,
-            b"blocks",
-            k,
-            b"expected a decimal number below 1000000000",
-        );
+    let text = argument(program.rt, k, &mut word);
+    let number = decimal_in(
+        text,
+        Word {
+            start: 0,
+            stop: text.len(),
+        },
+    );
+    if number.is_none() {
+        program.argument_fault(k, b"expected a decimal number below 1000000000");
     }
-    decimal
+    number
 }

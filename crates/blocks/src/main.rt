@@ -12,49 +12,28 @@ mod task;
 
 use command::{Command, asked, number, usage};
 use files::image::image_buffer;
+use files::program::Program;
 use make::make;
-use script::decimal::Decimal;
 use std::env::Env;
 use std::fs::Files;
 use task::{Task, with_image};
 
-fn read<R: Files + Env + Input + Print>(
-    rt: &R,
-    err: &impl Print,
-    image: &mut [u8],
-    bytes: &mut [u8],
-) {
-    if let Decimal::Value(block) = number(rt, err, 3) {
-        with_image(rt, err, Task::Read(block), image, bytes);
-    }
-}
-
-fn write<R: Files + Env + Input + Print>(
-    rt: &R,
-    err: &impl Print,
-    image: &mut [u8],
-    bytes: &mut [u8],
-) {
-    if let Decimal::Value(block) = number(rt, err, 3) {
-        with_image(rt, err, Task::Write(block), image, bytes);
-    }
-}
-
-fn obey<R: Files + Env + Input + Print>(
-    rt: &R,
-    err: &impl Print,
+fn obey<R: Files + Env + Input + Print, E: Print>(
+    program: &Program<'_, R, E>,
     command: Command,
     image: &mut [u8],
     bytes: &mut [u8],
 ) {
-    match command {
-        Command::New => make(rt, err, image),
-        Command::Count => with_image(rt, err, Task::Count, image, bytes),
-        Command::Read => read(rt, err, image, bytes),
-        Command::Write => write(rt, err, image, bytes),
-        Command::Export => with_image(rt, err, Task::Export, image, bytes),
-        Command::Import => with_image(rt, err, Task::Import, image, bytes),
-        Command::None => usage(err),
+    let task = match command {
+        Command::New => return make(program, image),
+        Command::Count => Some(Task::Count),
+        Command::Read => number(program, 3).map(|block| Task::Read(block)),
+        Command::Write => number(program, 3).map(|block| Task::Write(block)),
+        Command::Export => Some(Task::Export),
+        Command::Import => Some(Task::Import),
+    };
+    if let Some(task) = task {
+        with_image(program, task, image, bytes);
     }
 }
 
@@ -62,5 +41,13 @@ fn main(rt: HostRuntime) {
     let err = rt.stderr();
     let mut image = image_buffer();
     let mut bytes = image_buffer();
-    obey(&rt, &err, asked(&rt), &mut image, &mut bytes);
+    let program = Program {
+        rt: &rt,
+        err: &err,
+        name: b"blocks",
+    };
+    match asked(&rt) {
+        Some(command) => obey(&program, command, &mut image, &mut bytes),
+        None => usage(&err),
+    }
 }

@@ -3,11 +3,10 @@ ghost use Rattle.std.specs.Prelude.{◌≡◌};
 ghost use Rattle.blocks.specs.Status.{bad_in, fault_of};
 
 use block::request::{Ending, Reply};
-use files::fault::fault;
-use log_lines::hex::letter;
+use std::{fmt, io};
 
 // Why a block is bad.
-#[derive(Clone, Copy)]
+#[derive(Clone, Copy, Debug, PartialEq, Eq)]
 pub enum Fault {
     DataError,
     Protected,
@@ -18,10 +17,24 @@ pub enum Fault {
     Other,
 }
 
+impl fmt::Display for Fault {
+    fn fmt<W: fmt::Write>(&self, f: &mut fmt::Formatter<W>) -> fmt::Result {
+        f.write_str(match self {
+            Fault::DataError => "data error",
+            Fault::Protected => "protected",
+            Fault::NoData => "an address without data",
+            Fault::NotFound => "no such address",
+            Fault::Missing => "missing address",
+            Fault::Overrun => "overrun",
+            Fault::Other => "failed",
+        })
+    }
+}
+
 pub fn bad(st0: u8) -> bool
     ensures { result ≡ bad_in st0 }
 {
-    !(st0 / 0x40 == 0)
+    st0 / 0x40 != 0
 }
 
 #[tactic(auto, unfolding(crate::specs::Status::fault_of))]
@@ -49,65 +62,30 @@ fn fault_of(st1: u8, st2: u8) -> Fault
     Fault::Other
 }
 
-fn say(err: &impl Print, why: Fault) {
-    match why {
-        Fault::DataError => fault(err, b"data error"),
-        Fault::Protected => fault(err, b"protected"),
-        Fault::NoData => fault(err, b"an address without data"),
-        Fault::NotFound => fault(err, b"no such address"),
-        Fault::Missing => fault(err, b"missing address"),
-        Fault::Overrun => fault(err, b"overrun"),
-        Fault::Other => fault(err, b"failed"),
+fn ended(err: &impl Print, block: u32, ending: Ending) -> io::Result<()> {
+    let Ending { st0, st1, st2, .. } = ending;
+    if bad(st0) {
+        let why = fault_of(st1, st2);
+        println!(err; "blocks: block {block}: {why} (ST0 {st0:02X} ST1 {st1:02X} ST2 {st2:02X})")?;
     }
+    Ok(())
 }
 
-fn say_byte(err: &impl Print, byte: u8) {
-    fault(err, &[letter(byte / 16), letter(byte)]);
-}
-
-fn say_ending(err: &impl Print, ending: Ending) {
-    fault(err, b" (ST0 ");
-    say_byte(err, ending.st0);
-    fault(err, b" ST1 ");
-    say_byte(err, ending.st1);
-    fault(err, b" ST2 ");
-    say_byte(err, ending.st2);
-    fault(err, b")\n");
-}
-
-// A bad block by its number.
-fn name_block(err: &impl Print, block: u32) {
-    fault(err, b"blocks: block ");
-    let _written = err.print(block);
-    fault(err, b": ");
-}
-
-fn ended(err: &impl Print, block: u32, ending: Ending) {
-    if bad(ending.st0) {
-        name_block(err, block);
-        say(err, fault_of(ending.st1, ending.st2));
-        say_ending(err, ending);
-    }
+fn refused(err: &impl Print, block: u32, number: u8) -> io::Result<()> {
+    println!(err; "blocks: block {block}: refused, {number:02X}")
 }
 
 // A block that is one is not spoken of. The service refuses none that is asked for here, and its waits do not run out.
 pub fn named(err: &impl Print, block: u32, reply: Reply) {
-    match reply {
-        Reply::Ended(ending) => ended(err, block, ending),
-        Reply::RanOut(ending) => ended(err, block, ending),
-        Reply::Refused(number) => {
-            name_block(err, block);
-            fault(err, b"refused, ");
-            say_byte(err, number);
-            fault(err, b"\n");
-        }
-    }
+    let _written = match reply {
+        Reply::Ended(ending) | Reply::RanOut(ending) => ended(err, block, ending),
+        Reply::Refused(refusal) => refused(err, block, u8::from(refusal)),
+    };
 }
 
 // The whole line for a block that is not there.
 pub fn past_end(err: &impl Print, block: u32, count: u32) {
-    name_block(err, block);
-    fault(err, b"past the end, the image has ");
-    let _written = err.print(count);
-    fault(err, b" blocks\n");
+    let _written = println!(err;
+        "blocks: block {block}: past the end, the image has {count} blocks"
+    );
 }

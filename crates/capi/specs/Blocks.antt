@@ -2,6 +2,7 @@
 -- service.
 -- Assumes nothing.
 use Rattle.std.specs.Prelude.{ℕ, ◌+◌, ◌*◌, Bool, true, false, not, cond, List, [], ◌∷◌, ◌++◌, ◌≡◌, eqb, ltb, leb, length, drop}
+use Rattle.std.specs.Prelude.{Result, Ok, Err}
 use Rattle.image.specs.Lent.{pick_of}
 use Rattle.fdc.specs.declared.record.Controller.{Controller}
 use Rattle.fdc.specs.Record.{valid_of}
@@ -11,9 +12,11 @@ use Rattle.block.specs.declared.request.Reply.{Reply}
 use Rattle.block.specs.declared.request.Reply.TheVariants.{Refused, Ended, RanOut}
 use Rattle.block.specs.Box.{Box, box_of}
 use Rattle.block.specs.Place.{blocks_in, bytes_in}
-use Rattle.block.specs.Request.{read_block, write_block}
+use Rattle.block.specs.Request.{number_of, read_block, write_block}
 use Rattle.pack.specs.Back.{HoldsRecord}
 use Rattle.pack.specs.Bytes.{record_in, is_record, stored_of}
+use Rattle.capi.specs.declared.blocks.Denied.{Denied}
+use Rattle.capi.specs.declared.blocks.Denied.TheVariants.{Service, NoRoom}
 use Rattle.capi.specs.Word.{no_record}
 
 -- the refusals in their order, 0 where there is none: 1 for a block past the end, and an image that does not fit has
@@ -27,16 +30,30 @@ unfoldable pub block_refusal : ℕ → ℕ → ℕ → ℕ → Box → ℕ
 block_refusal drive block bytes room s =
     cond (not (valid_of s.controller)) 4 (refusal_on (pick_of drive s.first s.second) block bytes room)
 
+-- the numbers, by what was found
+abbrev pub denied_number : Denied → ℕ
+denied_number (Service refusal) = number_of refusal
+denied_number NoRoom = 3
+
+abbrev pub number_in : Result Unit Denied → ℕ
+number_in (Ok done) = 0
+number_in (Err denied) = denied_number denied
+
 -- goodness in bit 0, refusal number in 8 to 15, INT 16, DRQ 17; the lines are those of the record handed back
 unfoldable pub block_word : Bool → ℕ → Controller → ℕ
 block_word good number c = cond good 1 0 + 0x100 * number + cond (int_of c) 0x10000 0 + cond (drq_of c) 0x20000 0
+
+-- of a call that was served and left a good block or none, or of one that was refused
+abbrev pub told_word : Result Bool Denied → Controller → ℕ
+told_word (Ok good) c = block_word good 0 c
+told_word (Err denied) c = block_word false (denied_number denied) c
 
 -- a block is good where IC is 00
 abbrev pub good_of : Ending → Bool
 good_of e = ltb e.st0 0x40
 
 abbrev pub good_in : Reply → Bool
-good_in (Refused number) = false
+good_in (Refused refusal) = false
 good_in (Ended e) = good_of e
 good_in (RanOut e) = good_of e
 
@@ -45,7 +62,7 @@ abbrev pub status_of : Ending → List ℕ → List ℕ
 status_of e l = (e.st0 ∷ e.st1 ∷ e.st2 ∷ e.c ∷ e.h ∷ e.r ∷ e.n ∷ []) ++ drop 7 l
 
 abbrev pub status_in : Reply → List ℕ → List ℕ
-status_in (Refused number) l = l
+status_in (Refused refusal) l = l
 status_in (Ended e) l = status_of e l
 status_in (RanOut e) l = status_of e l
 

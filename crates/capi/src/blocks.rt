@@ -1,5 +1,5 @@
 // The block service for firmware, and the maker of blank disks (02 2026-01). A refusal is known before anything is
-// called, stepped or stored.
+// called, stepped or stored. A read's export and a write's stay two: both are the C interface.
 ghost use Rattle.std.specs.Prelude.{◌≡◌, ◌≤◌, length};
 ghost use Rattle.blank.specs.Blank.{size_of_disk, made_of, image_of};
 ghost use Rattle.block.specs.Box.{box_of};
@@ -8,11 +8,13 @@ ghost use Rattle.block.specs.Request.{read_block, write_block};
 ghost use Rattle.pack.specs.Back.{HoldsRecord};
 ghost use Rattle.pack.specs.Bytes.{record_size, stored_of};
 ghost use Rattle.capi.specs.Blocks.{
+  denied_number,
+  number_in,
   refusal_on,
   block_refusal,
   block_word,
+  told_word,
   good_in,
-  status_of,
   status_in,
   box_in,
   refusal_in,
@@ -21,31 +23,54 @@ ghost use Rattle.capi.specs.Blocks.{
   HoldsServed,
 };
 
-use crate::calls::NO_RECORD;
+use crate::calls::{NO_RECORD, record};
 use crate::word::line;
 use blank::disk::{make_blank, size_of_disk};
 use block::place::{blocks_in, bytes_in};
-use block::request::{Ending, Reply, Served, read_block, write_block};
+use block::request::{Refusal, Reply, Served, read_block, write_block};
 use fdc::record::Controller;
+use image::disk::Header;
 use image::lent::pick;
 use pack::put::store;
-use pack::take::{is_record, load};
 
-#[tactic(auto, unfolding(crate::specs::Blocks::refusal_on))]
-fn refusal_on(img: &[u8], block: u32, bytes: usize, room: usize) -> u8
-    ensures { result ≡ refusal_on img.now block bytes room }
-{
-    let past = blocks_in(img) <= block;
-    if past {
-        return 1;
-    }
-    let other = bytes != bytes_in(img) as usize;
-    if other {
-        return 2;
-    }
-    if room < 7 { 3 } else { 0 }
+// Why a block call is refused: as the service would, or for a status slice under seven.
+#[derive(Clone, Copy, Debug, PartialEq, Eq)]
+enum Denied {
+    Service(Refusal),
+    NoRoom,
 }
 
+// The document's number.
+impl From<Denied> for u8 {
+    ghost from_gives = { λ denied number. number ≡ denied_number denied };
+
+    fn from(denied: Denied) -> u8 {
+        match denied {
+            Denied::Service(refusal) => u8::from(refusal),
+            Denied::NoRoom => 3,
+        }
+    }
+}
+
+// The service's tests again, as `refusal_on` and `block_refusal` say them. Handed out by the service they would be no
+// plainer: a public function there with a contract of its own, and a lemma back to these two, which have 3 after them.
+#[tactic(auto, unfolding(crate::specs::Blocks::refusal_on))]
+fn refusal_on(img: &[u8], block: u32, bytes: usize, room: usize) -> Result<(), Denied>
+    ensures { number_in result ≡ refusal_on img.now block bytes room }
+{
+    if blocks_in(img) <= block {
+        return Err(Denied::Service(Refusal::NoSuchBlock));
+    }
+    if bytes != bytes_in(img) as usize {
+        return Err(Denied::Service(Refusal::WrongSize));
+    }
+    if room < 7 {
+        return Err(Denied::NoRoom);
+    }
+    Ok(())
+}
+
+// Its parameters are those that the exports are lent.
 #[tactic(auto, unfolding(crate::specs::Blocks::block_refusal))]
 fn block_refusal<'a>(
     c: Controller,
@@ -55,36 +80,26 @@ fn block_refusal<'a>(
     block: u32,
     bytes: usize,
     room: usize,
-) -> u8
-    ensures { result
+) -> Result<(), Denied>
+    ensures { number_in result
         ≡ block_refusal drive block bytes room (box_of c a.now b.now) }
 {
-    let damaged = !c.valid();
-    if damaged {
-        return 4;
+    if !c.valid() {
+        return Err(Denied::Service(Refusal::DamagedRecord));
     }
     refusal_on(pick(drive, a, b), block, bytes, room)
 }
 
+// The word of a call that was served, and whether its block is good, or of one that was refused.
 #[tactic(auto, unfolding(crate::specs::Blocks::block_word))]
-fn block_word(good: bool, number: u8, c: Controller) -> u32
-    ensures { result ≡ block_word good number c }
+fn block_word(good: Result<bool, Denied>, c: Controller) -> u32
+    ensures { result ≡ told_word good c }
 {
-    let wide = number as u32;
-    line(good, 1) + 0x100 * wide + line(c.int(), 0x10000) + line(c.drq(), 0x20000)
-}
-
-fn put_status(s: &mut [u8], e: Ending)
-    requires { 7 ≤ length s.old }
-    ensures { s.new ≡ status_of e s.old }
-{
-    s[0] = e.st0;
-    s[1] = e.st1;
-    s[2] = e.st2;
-    s[3] = e.c;
-    s[4] = e.h;
-    s[5] = e.r;
-    s[6] = e.n;
+    let told = match good {
+        Ok(good) => line(good, 1),
+        Err(denied) => 0x100 * u32::from(u8::from(denied)),
+    };
+    told + line(c.int(), 0x10000) + line(c.drq(), 0x20000)
 }
 
 // The status bytes put; whether the block is good.
@@ -95,12 +110,8 @@ fn tell(s: &mut [u8], reply: Reply) -> bool
 {
     match reply {
         Reply::Refused(_) => false,
-        Reply::Ended(e) => {
-            put_status(s, e);
-            e.st0 < 0x40
-        }
-        Reply::RanOut(e) => {
-            put_status(s, e);
+        Reply::Ended(e) | Reply::RanOut(e) => {
+            s[..7].copy_from_slice(&<[u8; 7]>::from(e));
             e.st0 < 0x40
         }
     }
@@ -114,11 +125,9 @@ fn finish_block(s: &mut [u8], status: &mut [u8], served: Served) -> u32
         → HoldsRecord s.new served.controller }
     ensures status { status.new ≡ status_in served.reply status.old }
 {
-    let reply = served.reply;
-    let controller = served.controller;
-    store(s, controller);
-    let good = tell(status, reply);
-    block_word(good, 0, controller)
+    store(s, served.controller);
+    let good = tell(status, served.reply);
+    block_word(Ok(good), served.controller)
 }
 
 #[unsafe(no_mangle)]
@@ -129,7 +138,7 @@ pub extern "C" fn bel_blocks(image: &[u8]) -> u32
 }
 
 #[unsafe(no_mangle)]
-#[tactic(auto, using(pack::proofs::PutLaws::record_long, crate::proofs::BlocksLaws::room_enough, crate::proofs::BlocksLaws::record_in_lem, crate::proofs::BlocksLaws::refusal_in_lem, crate::proofs::BlocksLaws::read_served, crate::proofs::BlocksLaws::read_refused, crate::proofs::BlocksLaws::read_no_record))]
+#[tactic(auto, using(pack::proofs::PutLaws::record_long, crate::proofs::BlocksLaws::room_enough, crate::proofs::BlocksLaws::record_in_lem, crate::proofs::BlocksLaws::refused_holds, crate::proofs::BlocksLaws::read_served, crate::proofs::BlocksLaws::read_refused, crate::proofs::BlocksLaws::read_no_record))]
 pub extern "C" fn bel_block_read(
     s: &mut [u8],
     image0: &mut [u8],
@@ -164,21 +173,20 @@ pub extern "C" fn bel_block_read(
         ≡ (block_read drive block s.old image0.old image1.old
         out.old status.old).status }
 {
-    let good = is_record(s);
-    if good {
-        let c = load(s);
-        let number = block_refusal(c, image0, image1, drive, block, out.len(), status.len());
-        if number == 0 {
+    let Some(c) = record(s) else {
+        return NO_RECORD;
+    };
+    match block_refusal(c, image0, image1, drive, block, out.len(), status.len()) {
+        Err(denied) => block_word(Err(denied), c),
+        Ok(()) => {
             let served = read_block(c, image0, image1, drive, block, out);
-            return finish_block(s, status, served);
+            finish_block(s, status, served)
         }
-        return block_word(false, number, c);
     }
-    NO_RECORD
 }
 
 #[unsafe(no_mangle)]
-#[tactic(auto, using(pack::proofs::PutLaws::record_long, crate::proofs::BlocksLaws::room_enough, crate::proofs::BlocksLaws::record_in_lem, crate::proofs::BlocksLaws::refusal_in_lem, crate::proofs::BlocksLaws::write_served, crate::proofs::BlocksLaws::write_refused, crate::proofs::BlocksLaws::write_no_record))]
+#[tactic(auto, using(pack::proofs::PutLaws::record_long, crate::proofs::BlocksLaws::room_enough, crate::proofs::BlocksLaws::record_in_lem, crate::proofs::BlocksLaws::refused_holds, crate::proofs::BlocksLaws::write_served, crate::proofs::BlocksLaws::write_refused, crate::proofs::BlocksLaws::write_no_record))]
 pub extern "C" fn bel_block_write(
     s: &mut [u8],
     image0: &mut [u8],
@@ -210,17 +218,16 @@ pub extern "C" fn bel_block_write(
         ≡ (block_write drive block s.old image0.old image1.old
         bytes.now status.old).status }
 {
-    let good = is_record(s);
-    if good {
-        let c = load(s);
-        let number = block_refusal(c, image0, image1, drive, block, bytes.len(), status.len());
-        if number == 0 {
+    let Some(c) = record(s) else {
+        return NO_RECORD;
+    };
+    match block_refusal(c, image0, image1, drive, block, bytes.len(), status.len()) {
+        Err(denied) => block_word(Err(denied), c),
+        Ok(()) => {
             let served = write_block(c, image0, image1, drive, block, bytes);
-            return finish_block(s, status, served);
+            finish_block(s, status, served)
         }
-        return block_word(false, number, c);
     }
-    NO_RECORD
 }
 
 #[unsafe(no_mangle)]
@@ -243,5 +250,12 @@ pub extern "C" fn bel_image_blank(
     ensures value { result ≡ made_of (length image.old) cylinders heads slots n protect }
     ensures image_after { image.new ≡ image_of image.old cylinders heads slots n protect fill }
 {
-    make_blank(image, cylinders, heads, slots, n, protect, fill)
+    let header = Header {
+        cylinders,
+        heads,
+        slots,
+        n,
+        protect,
+    };
+    make_blank(image, header, fill)
 }

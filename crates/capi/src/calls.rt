@@ -1,5 +1,5 @@
 // The calls of document 01 for firmware, and many ticks at once. No bytes trap: those that are no record are refused.
-ghost use Rattle.std.specs.Prelude.{true, ◌≡◌, ◌≤◌, length};
+ghost use Rattle.std.specs.Prelude.{true, false, MatchOption, ◌≡◌, ◌≤◌, length};
 ghost use Rattle.fdc.specs.Calls.{power_on, read_port, write_port, dma_read, dma_write, note_change};
 ghost use Rattle.fdc.specs.Answer.{number_in};
 ghost use Rattle.fdc.specs.Record.{with_fifo};
@@ -26,7 +26,7 @@ ghost use Rattle.capi.specs.Word.{word_of};
 
 use crate::cycle::{read_cycle, write_cycle};
 use crate::word::{long_word, word};
-use fdc::answer::{Answer, refusal_number};
+use fdc::answer::{Answer, Reply};
 use fdc::record::Controller;
 use many_ticks::run::ticks;
 use pack::cycle::{reading, writing};
@@ -34,13 +34,16 @@ use pack::places::RECORD_SIZE;
 use pack::put::{store, store_fifo};
 use pack::take::{is_record, load};
 
-// Bytes that are no record.
+// The word that C gets for bytes that are no record (the C interface).
 pub(crate) const NO_RECORD: u32 = 0x400;
 
-fn set_in(byte: u8) -> bool
-    ensures { result ≡ set_in byte }
+// The record in the bytes lent.
+#[tactic(auto, using(pack::proofs::PutLaws::record_loaded))]
+pub(crate) fn record(s: &[u8]) -> Option<Controller>
+    ensures { MatchOption result (is_record s.now ≡ false)
+        (λ c. (is_record s.now ≡ true) × (c ≡ record_in s.now)) }
 {
-    byte != 0
+    if is_record(s) { Some(load(s)) } else { None }
 }
 
 // A refusal leaves the bytes as they are.
@@ -50,17 +53,14 @@ fn finish(s: &mut [u8], answer: Answer) -> u32
     ensures bytes { s.new ≡ written_back answer s.old }
     ensures back { HoldsFrom s.old answer s.new }
 {
-    let reply = answer.reply;
-    let done = refusal_number(reply) == 0;
-    if done {
-        let controller = answer.controller;
-        store(s, controller);
-        return word(answer);
+    if !matches!(answer.reply, Reply::Refused(_)) {
+        store(s, answer.controller);
     }
     word(answer)
 }
 
-// After a cycle the FIFO alone is written.
+// After a cycle the FIFO alone is written. Not one with `finish`: each stores another part, and its clauses say which;
+// the word is all that they share.
 #[tactic(auto, unfolding(crate::specs::Calls::cycled_of))]
 fn finish_cycle(s: &mut [u8], answer: Answer) -> u32
     ensures word { result ≡ word_of answer }
@@ -68,13 +68,8 @@ fn finish_cycle(s: &mut [u8], answer: Answer) -> u32
     ensures back { is_record s.old ≡ true → number_in answer.reply ≡ 0
         → HoldsRecord s.new (with_fifo answer.controller.fifo (record_in s.old)) }
 {
-    let reply = answer.reply;
-    let done = refusal_number(reply) == 0;
-    if done {
-        let controller = answer.controller;
-        let fifo = controller.fifo;
-        store_fifo(s, fifo);
-        return word(answer);
+    if !matches!(answer.reply, Reply::Refused(_)) {
+        store_fifo(s, answer.controller.fifo);
     }
     word(answer)
 }
@@ -94,18 +89,16 @@ pub extern "C" fn bel_power_on(s: &mut [u8], head0: u8, head1: u8) -> u32
     ensures back { record_size ≤ length s.old
         → HoldsRecord s.new (power_on head0 head1).controller }
 {
-    let enough = RECORD_SIZE <= s.len();
-    if enough {
-        let answer = Controller::power_on(head0, head1);
-        let controller = answer.controller;
-        store(s, controller);
-        return word(answer);
+    if s.len() < RECORD_SIZE {
+        return NO_RECORD;
     }
-    NO_RECORD
+    let answer = Controller::power_on(head0, head1);
+    store(s, answer.controller);
+    word(answer)
 }
 
 #[unsafe(no_mangle)]
-#[tactic(auto, using(pack::proofs::PutLaws::record_loaded), unfolding(crate::specs::Calls::word_back, crate::specs::Calls::bytes_from))]
+#[tactic(auto, unfolding(crate::specs::Calls::word_back, crate::specs::Calls::bytes_from))]
 pub extern "C" fn bel_read_port(s: &mut [u8], offset: u8) -> u32
     ensures word { result ≡ word_back s.old (read_port offset (record_in s.old)) }
     ensures bytes { s.new
@@ -113,16 +106,14 @@ pub extern "C" fn bel_read_port(s: &mut [u8], offset: u8) -> u32
     ensures back { HoldsFrom s.old (read_port offset (record_in s.old))
         s.new }
 {
-    let good = is_record(s);
-    if good {
-        let answer = load(s).read_port(offset);
-        return finish(s, answer);
-    }
-    NO_RECORD
+    let Some(c) = record(s) else {
+        return NO_RECORD;
+    };
+    finish(s, c.read_port(offset))
 }
 
 #[unsafe(no_mangle)]
-#[tactic(auto, using(pack::proofs::PutLaws::record_loaded), unfolding(crate::specs::Calls::word_back, crate::specs::Calls::bytes_from))]
+#[tactic(auto, unfolding(crate::specs::Calls::word_back, crate::specs::Calls::bytes_from))]
 pub extern "C" fn bel_write_port(s: &mut [u8], offset: u8, byte: u8) -> u32
     ensures word { result
         ≡ word_back s.old (write_port offset byte (record_in s.old)) }
@@ -131,15 +122,13 @@ pub extern "C" fn bel_write_port(s: &mut [u8], offset: u8, byte: u8) -> u32
     ensures back { HoldsFrom s.old (write_port offset byte (record_in s.old))
         s.new }
 {
-    let good = is_record(s);
-    if good {
-        let answer = load(s).write_port(offset, byte);
-        return finish(s, answer);
-    }
-    NO_RECORD
+    let Some(c) = record(s) else {
+        return NO_RECORD;
+    };
+    finish(s, c.write_port(offset, byte))
 }
 
-// To the host; tc is 0 or not.
+// To the host; tc is 0 or not. The record is read whole only where the cycle is not one of a transfer at work.
 #[unsafe(no_mangle)]
 #[tactic(auto, using(pack::proofs::CycleLaws::read_keeps, pack::proofs::PutLaws::record_loaded), unfolding(crate::specs::Calls::word_back, crate::specs::Calls::cycle_from))]
 pub extern "C" fn bel_dma_read(s: &mut [u8], tc: u8) -> u32
@@ -150,16 +139,14 @@ pub extern "C" fn bel_dma_read(s: &mut [u8], tc: u8) -> u32
     ensures back { HoldsFrom s.old (dma_read (set_in tc) (record_in s.old))
         s.new }
 {
-    let good = is_record(s);
-    if good {
-        let quick = reading(s);
-        if quick {
-            return read_cycle(s, set_in(tc));
-        }
-        let answer = load(s).dma_read(set_in(tc));
-        return finish_cycle(s, answer);
+    if !is_record(s) {
+        return NO_RECORD;
     }
-    NO_RECORD
+    if reading(s) {
+        return read_cycle(s, tc != 0);
+    }
+    let answer = load(s).dma_read(tc != 0);
+    finish_cycle(s, answer)
 }
 
 // From the host.
@@ -173,20 +160,18 @@ pub extern "C" fn bel_dma_write(s: &mut [u8], byte: u8, tc: u8) -> u32
     ensures back { HoldsFrom s.old (dma_write byte (set_in tc) (record_in s.old))
         s.new }
 {
-    let good = is_record(s);
-    if good {
-        let quick = writing(s);
-        if quick {
-            return write_cycle(s, byte, set_in(tc));
-        }
-        let answer = load(s).dma_write(byte, set_in(tc));
-        return finish_cycle(s, answer);
+    if !is_record(s) {
+        return NO_RECORD;
     }
-    NO_RECORD
+    if writing(s) {
+        return write_cycle(s, byte, tc != 0);
+    }
+    let answer = load(s).dma_write(byte, tc != 0);
+    finish_cycle(s, answer)
 }
 
 #[unsafe(no_mangle)]
-#[tactic(auto, using(pack::proofs::PutLaws::record_loaded), unfolding(crate::specs::Calls::word_back, crate::specs::Calls::bytes_from))]
+#[tactic(auto, unfolding(crate::specs::Calls::word_back, crate::specs::Calls::bytes_from))]
 pub extern "C" fn bel_note_change(s: &mut [u8], drive: u8) -> u32
     ensures word { result ≡ word_back s.old (note_change drive (record_in s.old)) }
     ensures bytes { s.new
@@ -194,17 +179,15 @@ pub extern "C" fn bel_note_change(s: &mut [u8], drive: u8) -> u32
     ensures back { HoldsFrom s.old (note_change drive (record_in s.old))
         s.new }
 {
-    let good = is_record(s);
-    if good {
-        let answer = load(s).note_change(drive);
-        return finish(s, answer);
-    }
-    NO_RECORD
+    let Some(c) = record(s) else {
+        return NO_RECORD;
+    };
+    finish(s, c.note_change(drive))
 }
 
 // One byte time, over the two images.
 #[unsafe(no_mangle)]
-#[tactic(auto, using(pack::proofs::PutLaws::record_loaded), unfolding(crate::specs::Calls::word_back, crate::specs::Calls::bytes_from, crate::specs::Calls::image_from))]
+#[tactic(auto, unfolding(crate::specs::Calls::word_back, crate::specs::Calls::bytes_from, crate::specs::Calls::image_from))]
 pub extern "C" fn bel_tick(s: &mut [u8], image0: &mut [u8], image1: &mut [u8]) -> u32
     ensures word { result
         ≡ word_back s.old
@@ -220,17 +203,15 @@ pub extern "C" fn bel_tick(s: &mut [u8], image0: &mut [u8], image1: &mut [u8]) -
     ensures second { image1.new
         ≡ image_from 1 s.old image0.old image1.old image1.old }
 {
-    let good = is_record(s);
-    if good {
-        let answer = load(s).tick(image0, image1);
-        return finish(s, answer);
-    }
-    NO_RECORD
+    let Some(c) = record(s) else {
+        return NO_RECORD;
+    };
+    finish(s, c.tick(image0, image1))
 }
 
 // Up to n ticks, with one reading and one writing of the record.
 #[unsafe(no_mangle)]
-#[tactic(auto, using(pack::proofs::PutLaws::record_loaded), unfolding(crate::specs::Calls::long_from, crate::specs::Calls::bytes_from, crate::specs::Calls::first_from, crate::specs::Calls::second_from))]
+#[tactic(auto, unfolding(crate::specs::Calls::long_from, crate::specs::Calls::bytes_from, crate::specs::Calls::first_from, crate::specs::Calls::second_from))]
 pub extern "C" fn bel_ticks(s: &mut [u8], image0: &mut [u8], image1: &mut [u8], n: u32) -> u64
     ensures word { result
         ≡ long_from n s.old image0.old image1.old }
@@ -245,11 +226,9 @@ pub extern "C" fn bel_ticks(s: &mut [u8], image0: &mut [u8], image1: &mut [u8], 
     ensures second { image1.new
         ≡ second_from n s.old image0.old image1.old }
 {
-    let good = is_record(s);
-    if good {
-        let r = ticks(load(s), image0, image1, n);
-        let answer = r.answer;
-        return long_word(finish(s, answer), r.made);
-    }
-    long_word(NO_RECORD, 0)
+    let Some(c) = record(s) else {
+        return long_word(NO_RECORD, 0);
+    };
+    let ran = ticks(c, image0, image1, n);
+    long_word(finish(s, ran.answer), ran.made)
 }

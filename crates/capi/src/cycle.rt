@@ -16,6 +16,8 @@ use pack::cycle::{efifo, pending};
 use pack::put::store_fifo;
 use pack::take::load_fifo;
 
+// What a read's cycle and a write's share. That the bytes are a record is asked by all three: an export has just tested
+// it where it calls the two below, and a struct with that invariant, made for that one call, would be no plainer.
 #[tactic(auto, using(pack::proofs::CycleLaws::cycle_int, pack::proofs::CycleLaws::cycle_drq, pack::proofs::PutLaws::record_loaded), unfolding(fdc::specs::Answer::answer_of))]
 fn cycled(s: &mut [u8], reply: Reply, f: Fifo) -> u32
     requires { (is_record s.old ≡ true) × (cycles_in s.old ≡ true) }
@@ -28,7 +30,8 @@ fn cycled(s: &mut [u8], reply: Reply, f: Fifo) -> u32
     word_in(reply, int, f.asks)
 }
 
-// The host takes a byte.
+// The host takes a byte. A cycle from the host stays apart: its byte goes the other way (`handed` and `taken`, or
+// `given`), and each has the clauses of its own call.
 #[tactic(auto, using(pack::proofs::PutLaws::record_loaded, pack::proofs::CycleLaws::reading_told, pack::proofs::CycleLaws::reading_cycle), unfolding(crate::specs::Calls::cycled_of, fdc::specs::Answer::answer_of, fdc::specs::Record::with_fifo))]
 pub(crate) fn read_cycle(s: &mut [u8], tc: bool) -> u32
     requires { (is_record s.old ≡ true) × (reading_in s.old ≡ true) }
@@ -38,9 +41,7 @@ pub(crate) fn read_cycle(s: &mut [u8], tc: bool) -> u32
     ensures back { HoldsRecord s.new (dma_read tc (record_in s.old)).controller }
 {
     let f = load_fifo(s);
-    let byte = f.handed();
-    let next = f.taken(tc);
-    cycled(s, Reply::Byte(byte), next)
+    cycled(s, Reply::Byte(f.handed()), f.taken(tc))
 }
 
 // The host gives a byte.
@@ -52,8 +53,6 @@ pub(crate) fn write_cycle(s: &mut [u8], byte: u8, tc: bool) -> u32
         ≡ cycled_of (dma_write byte tc (record_in s.old)) s.old }
     ensures back { HoldsRecord s.new (dma_write byte tc (record_in s.old)).controller }
 {
-    let f = load_fifo(s);
-    let alone = efifo(s);
-    let next = f.given(alone, tc, byte);
+    let next = load_fifo(s).given(efifo(s), tc, byte);
     cycled(s, Reply::Done, next)
 }

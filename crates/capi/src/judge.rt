@@ -4,7 +4,6 @@ ghost use Rattle.judging.specs.Judge.{judge_of};
 ghost use Rattle.capi.specs.Judge.{verdict_word};
 
 use crate::word::long_word;
-use judging::fault::{Verdict, kind_number};
 use judging::judge::judge;
 
 #[unsafe(no_mangle)]
@@ -12,12 +11,8 @@ use judging::judge::judge;
 pub extern "C" fn bel_judge(image: &[u8]) -> u64
     ensures { result ≡ verdict_word (judge_of image.now) }
 {
-    let verdict = judge(image);
-    match verdict {
-        Verdict::Sound => 0,
-        Verdict::Faulty(f) => {
-            let kind = f.kind;
-            long_word(kind_number(kind) as u32, f.at as u32)
-        }
+    match judge(image) {
+        Ok(()) => 0,
+        Err(f) => long_word(u32::from(u8::from(f.kind)), f.at as u32),
     }
 }

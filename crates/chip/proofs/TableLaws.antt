@@ -1,14 +1,11 @@
--- Lists that are written out by a rule: what stands at each place is the rule's value there. A table goes by `at`, an
--- array literal of an array's elements by `listed_drop`.
+-- Lists that are written out by a rule: what stands at each place is the rule's value there.
 -- Assumes nothing.
 use mathlib.Core.Path.{◌≡◌, ◌∙◌, ap, sym}
-use mathlib.Core.List.{List}
 use Prim.Native.Nat.{ℕ, zero, suc, ◌+◌, ◌<◌}
 use native.Mathlib.Nat.{add-zero, zero-add, add-suc, suc-add, le_of_suc-le-suc, not-suc-le-zero}
 use native.Mathlib.Omega.{arith}
-use Rattle.image.proofs.ListLaws.{listed, listed_part}
-use lib.ListN.{length, get_or, drop, length-drop}
-use lib.Seq.{take_all}
+use Rattle.image.proofs.ListLaws.{listed}
+use lib.ListN.{get_or}
 
 from : (f : ℕ → ℕ) (n i k : ℕ) → k < n → get_or (listed f i n) k 0 ≡ f (i + k)
 from f zero i k h = absurd (not-suc-le-zero h)
@@ -17,8 +14,3 @@ from f (suc n) i (suc k) h = from f n (suc i) k (le_of_suc-le-suc h) ∙ ap f (s
 
 pub at : (f : ℕ → ℕ) (n k : ℕ) → k < n → get_or (listed f 0 n) k 0 ≡ f k
 at f n k h = from f n 0 k h ∙ ap f (zero-add k)
-
--- the elements from i to the end, written out, are the list without its first i
-pub listed_drop : (l : List ℕ) (n i : ℕ) → length l ≡ i + n → listed (λ k. get_or l k 0) i n ≡ drop i l
-listed_drop l n i h =
-    listed_part l n i (omega arith) ∙ take_all n (drop i l) (omega (arith, length-drop i l))

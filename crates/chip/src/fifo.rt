@@ -20,6 +20,15 @@ ghost use Rattle.chip.specs.Fifo.{
   drawn_of,
 };
 
+// How Configure has set the FIFO.
+#[derive(Clone, Copy, Debug, PartialEq, Eq)]
+pub struct Setting {
+    // 1: it holds one byte.
+    pub efifo: bool,
+    pub fifothr: u8,
+}
+
+// An array with a count beside it: no heap, and refusal 4 speaks of counts past the array's end (`within_of`).
 #[derive(Clone, Copy)]
 pub struct Fifo {
     pub bytes: [u8; 16],
@@ -36,25 +45,30 @@ pub fn capacity(efifo: bool) -> u8
     if efifo { 1 } else { 16 }
 }
 
-fn read_level(efifo: bool, fifothr: u8) -> u8
-    ensures { result ≡ read_level efifo fifothr }
-{
-    if efifo {
-        return 1;
+impl Setting {
+    // To the host it asks from so many bytes on.
+    fn read_level(self) -> u8
+        ensures { result ≡ read_level self.efifo self.fifothr }
+    {
+        if self.efifo {
+            return 1;
+        }
+        if self.fifothr < 15 {
+            15 - self.fifothr
+        } else {
+            1
+        }
     }
-    if fifothr < 15 { 15 - fifothr } else { 1 }
-}
 
-fn write_level(efifo: bool, fifothr: u8) -> u16
-    ensures { result ≡ write_level efifo fifothr }
-{
-    if efifo { 0 } else { fifothr as u16 + 1 }
-}
-
-fn one_less(n: u8) -> u8
-    ensures { result ≡ n - 1 }
-{
-    if n == 0 { 0 } else { n - 1 }
+    // From the host it asks up to so many.
+    fn write_level(self) -> u16
+        ensures { result ≡ write_level self.efifo self.fifothr }
+    {
+        if self.efifo {
+            return 0;
+        }
+        u16::from(self.fifothr) + 1
+    }
 }
 
 impl Fifo {
@@ -74,10 +88,8 @@ impl Fifo {
         ensures { result ≡ shut }
     {
         Fifo {
-            bytes: [0u8; 16],
-            count: 0,
-            asks: false,
             tc: true,
+            ..Fifo::empty()
         }
     }
 
@@ -105,37 +117,25 @@ impl Fifo {
     pub fn handed(self) -> u8
         ensures { result ≡ handed_of self }
     {
-        let empty = self.count == 0;
-        if empty {
-            return 0;
-        }
-        self.front()
+        if self.count == 0 { 0 } else { self.front() }
     }
 
     fn flagged(self, asks: bool, tc: bool) -> Fifo
         ensures { result ≡ flagged asks tc self }
     {
-        let bytes = self.bytes;
-        Fifo {
-            bytes,
-            count: self.count,
-            asks,
-            tc,
-        }
+        Fifo { asks, tc, ..self }
     }
 
     fn pushed(self, byte: u8) -> Fifo
         requires { self.count < 16 }
         ensures { result ≡ pushed_of byte self }
     {
-        let at = self.count as usize;
         let mut bytes = self.bytes;
-        bytes[at] = byte;
+        bytes[usize::from(self.count)] = byte;
         Fifo {
             bytes,
             count: self.count + 1,
-            asks: self.asks,
-            tc: self.tc,
+            ..self
         }
     }
 
@@ -143,31 +143,25 @@ impl Fifo {
     fn popped(self) -> Fifo
         ensures { result ≡ popped_of self }
     {
-        let b = self.bytes;
-        let bytes = [
-            b[1], b[2], b[3], b[4], b[5], b[6], b[7], b[8], b[9], b[10], b[11], b[12], b[13],
-            b[14], b[15], 0,
-        ];
-        let count = one_less(self.count);
+        let mut bytes = [0; 16];
+        bytes[..15].copy_from_slice(&self.bytes[1..]);
         Fifo {
             bytes,
-            count,
-            asks: self.asks,
-            tc: self.tc,
+            count: self.count.saturating_sub(1),
+            ..self
         }
     }
 
     // A byte from the disk, to the host.
     #[tactic(auto, using(crate::proofs::FifoLaws::room_left, image::proofs::TestLaws::or_right), unfolding(crate::specs::Fifo::filled_of))]
-    pub fn filled(self, efifo: bool, fifothr: u8, last: bool, byte: u8) -> Fifo
-        ensures { result ≡ filled_of efifo fifothr last byte self }
+    pub fn filled(self, set: Setting, last: bool, byte: u8) -> Fifo
+        ensures { result ≡ filled_of set.efifo set.fifothr last byte self }
     {
-        let stays = self.tc | self.full(efifo);
-        if stays {
+        if self.tc | self.full(set.efifo) {
             return self;
         }
         let f = self.pushed(byte);
-        let asks = self.asks | last | (read_level(efifo, fifothr) <= f.count);
+        let asks = self.asks | last | (set.read_level() <= f.count);
         f.flagged(asks, self.tc)
     }
 
@@ -197,8 +191,7 @@ impl Fifo {
     pub fn given(self, efifo: bool, tc: bool, byte: u8) -> Fifo
         ensures { result ≡ given_of efifo tc byte self }
     {
-        let full = self.full(efifo);
-        if full {
+        if self.full(efifo) {
             return self.flagged(false, self.tc);
         }
         let f = self.pushed(byte);
@@ -208,11 +201,11 @@ impl Fifo {
 
     // The front byte goes to the disk.
     #[tactic(auto, unfolding(crate::specs::Fifo::drawn_of))]
-    pub fn drawn(self, efifo: bool, fifothr: u8) -> Fifo
-        ensures { result ≡ drawn_of efifo fifothr self }
+    pub fn drawn(self, set: Setting) -> Fifo
+        ensures { result ≡ drawn_of set.efifo set.fifothr self }
     {
         let f = self.popped();
-        let few = (f.count as u16 <= write_level(efifo, fifothr)) & (f.count < capacity(efifo));
+        let few = (u16::from(f.count) <= set.write_level()) & (f.count < capacity(set.efifo));
         let asks = !self.tc & (self.asks | few);
         f.flagged(asks, self.tc)
     }

@@ -1,6 +1,6 @@
 // The table of the 256 command codes (01 Commands). A line is ten times the kind's number and the byte count: 19 is
-// kind 1 with nine bytes. The kinds' numbers are `kind_number`'s; codes.rt makes the enum of them, since the check has
-// no room for a table of 256 structs or enums.
+// kind 1 with nine bytes. Numbers and no structs: tried, and the check of this crate takes minutes where it takes
+// seconds, which the gate's time does not allow (D-04). codes.rt makes the enum of them.
 
 const UNKNOWN: u8 = 1;
 

@@ -1,11 +1,11 @@
 -- After TC the request is off, and so no byte passes (specs/AfterTc).
 -- Assumes nothing.
+use Rattle.std.specs.Prelude.{Some}
 use Prim.Native.Nat.{ℕ, ◌<◌, ◌+◌, ◌≤◌}
 use mathlib.Core.Bool.{Bool, true, false, true≢false, false≢true}
 use mathlib.Core.List.{List, [], ◌∷◌}
 use mathlib.Core.Path.{◌≡◌, refl, sym, ap, ◌∙◌, subst}
 use Rattle.chip.specs.declared.fifo.Fifo.{Fifo}
-use Rattle.image.specs.declared.disk.Disk.TheVariants.{Present}
 use Rattle.image.specs.declared.layout.Geometry.{Geometry}
 use Rattle.image.specs.declared.slot.Id.{Id}
 use Rattle.image.specs.Disk.{disk_in}
@@ -73,7 +73,7 @@ flow_off g cylinder transfer aim img num (flows a n lo sum all) told = absurd (f
 flow_off g cylinder transfer aim img num (ended a n none off all lo hi) told = off
 
 pub read_off : (g : Geometry) (cylinder : ℕ) (order : Order) (transfer : Transfer) (id : Id) (img : List ℕ)
-    (disk : disk_in img ≡ Present g) (moves_it : order.job ≡ Move transfer id) (rd : transfer.pass ≡ Read)
+    (disk : disk_in img ≡ Some g) (moves_it : order.job ≡ Move transfer id) (rd : transfer.pass ≡ Read)
     (hd : order.drive < 4) (e : Controller) (t : Taken)
     → handing.Run g cylinder order transfer id img disk moves_it rd hd e t → at_work e.phase ≡ true → t.told ≡ true
     → e.fifo.asks ≡ false
@@ -85,7 +85,7 @@ read_off g cylinder order transfer id img disk moves_it rd hd e t (handing.at_it
     flow_off g cylinder transfer _ img b.num b.flow told
 
 pub write_off : (g : Geometry) (cylinder : ℕ) (order : Order) (transfer : Transfer) (id : Id) (old : List ℕ)
-    (disk : disk_in old ≡ Present g) (moves_it : order.job ≡ Move transfer id) (wr : transfer.pass ≡ Write)
+    (disk : disk_in old ≡ Some g) (moves_it : order.job ≡ Move transfer id) (wr : transfer.pass ≡ Write)
     (hr : id.r < 256) (he : transfer.eot < 256) (hd : order.drive < 4) (e : Controller) (img : List ℕ) (h : History)
     → cutting.Run g cylinder order transfer id old disk moves_it wr hr he hd e img h → at_work e.phase ≡ true
     → h.told ≡ true → e.fifo.asks ≡ false
@@ -137,7 +137,7 @@ takes_one (notes drive) c t = omega arith
 
 -- a host that tells TC with byte number L takes no more
 module _ (g : Geometry) (cylinder : ℕ) (order : Order) (transfer : Transfer) (id : Id) (img : List ℕ)
-    (disk : disk_in img ≡ Present g) (moves_it : order.job ≡ Move transfer id) (rd : transfer.pass ≡ Read)
+    (disk : disk_in img ≡ Some g) (moves_it : order.job ≡ Move transfer id) (rd : transfer.pass ≡ Read)
     (hd : order.drive < 4) (L : ℕ) where
   most_after : (call : Call) (c : Controller) (t : Taken) → Quiet c → at_work c.phase ≡ true
       → handing.Run g cylinder order transfer id img disk moves_it rd hd c t → TellsAt L t → length t.got ≤ L

@@ -2,6 +2,7 @@
 -- Each search but the last finds a slot; on one side the numbers sought, from R up to EOT, are all different, so that a
 -- slot is found once: the slots of the side whose number is still to come pay for what is still to be found.
 -- Assumes nothing.
+use Rattle.std.specs.Prelude.{None, Some}
 use Prim.Native.Nat.{ℕ, suc, ◌+◌, ◌*◌, ◌-◌, ◌≤◌, ◌<◌}
 use native.Mathlib.Nat.{mul-le-mul_right, le-mul_of_pos_right}
 use native.Mathlib.Omega.{arith}
@@ -13,11 +14,9 @@ use lib.Dec.{eqb, leb, ltb}
 use lib.ListN.{set}
 use lib.Seq.{get_or-set_other}
 use borrow.Author.Tests.{leb-true, leb-false, ltb-true, ltb-false, eqb-true, eqb-false, eq-eqb, ne_eqb, lt-ltb, le-ltb}
-use Rattle.image.specs.declared.disk.Disk.{Disk}
-use Rattle.image.specs.declared.disk.Disk.TheVariants.{Absent, Present}
+use Rattle.image.specs.Disk.{Disk}
 use Rattle.image.specs.declared.layout.Geometry.{Geometry}
-use Rattle.image.specs.declared.lent.Effect.{Effect}
-use Rattle.image.specs.declared.lent.Effect.TheVariants.{Nothing}
+use Rattle.image.specs.Lent.{Effect}
 use Rattle.image.specs.declared.mark.Mark.{Mark}
 use Rattle.image.specs.declared.mark.Mark.TheVariants.{NoId, Data, NoData}
 use Rattle.image.specs.declared.slot.Id.{Id}
@@ -410,13 +409,13 @@ module _ (head : ℕ) (img : List ℕ) (efifo : Bool) (fifothr : ℕ) (site : Si
       → Falls site.disk img head (stage_left img head site task stage) o
   unfolding work_left stage_left
   rule_falls stage o (not_found look verdict p h l k x y f e) q =
-      rw e (end_falls _ img head _ verdict Nothing (stage_pos img head site task stage q))
+      rw e (end_falls _ img head _ verdict None (stage_pos img head site task stage q))
   rule_falls stage o (no_data look verdict p h k m f e) q =
-      rw e (end_falls _ img head _ verdict Nothing (stage_pos img head site task stage q))
+      rw e (end_falls _ img head _ verdict None (stage_pos img head site task stage q))
   rule_falls stage o (no_side slot verdict p ns f e) q =
-      rw e (end_falls _ img head _ verdict Nothing (stage_pos img head site task stage q))
+      rw e (end_falls _ img head _ verdict None (stage_pos img head site task stage q))
   rule_falls stage o (late verdict f l x e) q =
-      rw e (end_falls _ img head _ verdict Nothing (stage_pos img head site task stage q))
+      rw e (end_falls _ img head _ verdict None (stage_pos img head site task stage q))
   rule_falls stage o (misses look on p h l a b e) q =
       let q' = rw p at q in
       rw (e, p) (record { less = rw (a, b) (omega arith); proper = (refl, (w, (omega arith, omega arith))) })
@@ -437,9 +436,9 @@ module _ (head : ℕ) (img : List ℕ) (efifo : Bool) (fifothr : ℕ) (site : Si
       })
   rule_falls stage o (skips look deleted broken p h k m n z r) q =
       let q' = rw p at q in
-      rw p (next_falls img head look.slot site _ fifo Nothing _ _ o r w some all_kept
+      rw p (next_falls img head look.slot site _ fifo None _ _ o r w some all_kept
       (omega (arith, paid img head site task look.slot w q'.0 h))
-      (next_effect img head look.slot site _ fifo Nothing _ o r))
+      (next_effect img head look.slot site _ fifo None _ o r))
   rule_falls stage o (turned_over slot p e) q =
       let q' = rw p at q in
       let K = cost site.disk in
@@ -509,15 +508,15 @@ module _ (head : ℕ) (img : List ℕ) (efifo : Bool) (fifothr : ℕ) (site : Si
       let q' = rw p at q in
       rw (e, p) (record { less = omega arith; proper = (refl, (w, (q'.0, omega arith))) })
   rule_falls stage o (data_error sector looks verdict p b s f e) q =
-      rw e (end_falls _ img head _ verdict Nothing (stage_pos img head site task stage q))
+      rw e (end_falls _ img head _ verdict None (stage_pos img head site task stage q))
   rule_falls stage o (ends_late sector looks verdict p b x v e) q =
-      rw e (end_falls _ img head _ verdict Nothing (stage_pos img head site task stage q))
+      rw e (end_falls _ img head _ verdict None (stage_pos img head site task stage q))
   rule_falls stage o (other_kind sector looks verdict p b x z ok os v zc e) q =
-      rw e (end_falls _ img head _ verdict Nothing (stage_pos img head site task stage q))
+      rw e (end_falls _ img head _ verdict None (stage_pos img head site task stage q))
   rule_falls stage o (drained sector looks p b x ok zc r) q =
       let q' = rw p at q in
-      rw p (next_falls img head sector.slot site task fifo Nothing _ _ o r w some all_kept
-      (omega arith) (next_effect img head sector.slot site task fifo Nothing _ o r))
+      rw p (next_falls img head sector.slot site task fifo None _ _ o r w some all_kept
+      (omega arith) (next_effect img head sector.slot site task fifo None _ o r))
 
 -- 01 Read ID
 module _ (img : List ℕ) (head : ℕ) (site : Site) (fifo : Fifo) (slot round : ℕ)
@@ -526,9 +525,9 @@ module _ (img : List ℕ) (head : ℕ) (site : Site) (fifo : Fifo) (slot round :
     abbrev IdFalls : Step → Type 0
     IdFalls o = Falls site.disk img head (work_left img head (Identifying site slot round)) o
 
-    id_ends : (verdict : Verdict) → IdFalls (ends_with verdict Nothing)
+    id_ends : (verdict : Verdict) → IdFalls (ends_with verdict None)
     id_ends verdict =
-        end_falls site.disk img head _ verdict Nothing (work_pos img head (Identifying site slot round) w)
+        end_falls site.disk img head _ verdict None (work_pos img head (Identifying site slot round) w)
 
     no_id_falls : IdFalls (no_id_here slot round site fifo)
     unfolding no_id_here no_id_of end_of work_left
@@ -541,7 +540,7 @@ module _ (img : List ℕ) (head : ℕ) (site : Site) (fifo : Fifo) (slot round :
         slots = site.disk.slots
 
         go : (a : Bool) → leb slots (slot + 1) ≡ a → (b : Bool) → leb 1 round ≡ b → (a && b) ≡ false
-            → IdFalls (goes_of (Identifying site (next_slot slot slots) (passes_after slot slots round)) fifo Nothing)
+            → IdFalls (goes_of (Identifying site (next_slot slot slots) (passes_after slot slots round)) fifo None)
         go true l b m t =
             let k = leb-true slots (slot + 1) l in
             let m' : leb 1 round ≡ false = m ∙ t in
@@ -585,9 +584,9 @@ module _ (img : List ℕ) (head : ℕ) (site : Site) (plan : Plan) (fifo : Fifo)
   await_falls slot wait w =
       by_test (eqb fifo.count 0) (FormFalls (form.Awaiting slot wait)) _ _
       (λ t. by_test (leb 63 wait) (FormFalls (form.Awaiting slot wait)) _ _
-      (λ u. form_ends (form.Awaiting slot wait) _ Nothing w)
+      (λ u. form_ends (form.Awaiting slot wait) _ None w)
       (λ u. let l = leb-false 63 wait u in
-      form_goes (form.Awaiting slot wait) (form.Awaiting slot (wait + 1)) fifo Nothing (omega arith)
+      form_goes (form.Awaiting slot wait) (form.Awaiting slot (wait + 1)) fifo None (omega arith)
       (w.0, omega arith)))
       (λ t. form_goes (form.Awaiting slot wait) (Addressing slot 0) fifo _ (omega arith) w.0)
 
@@ -605,7 +604,7 @@ module _ (img : List ℕ) (head : ℕ) (site : Site) (plan : Plan) (fifo : Fifo)
   unfolding address_of format_end end_of
   address_falls slot k efifo fifothr w =
       by_test (eqb fifo.count 0) (FormFalls (Addressing slot k)) _ _
-      (λ t. form_ends (Addressing slot k) _ Nothing w)
+      (λ t. form_ends (Addressing slot k) _ None w)
       (λ t. put_falls slot k _ _ w)
 
   clear_on_falls : (f : Form) (slot : ℕ) (effect : Effect) → ProperForm site f
@@ -656,11 +655,11 @@ module _ (img : List ℕ) (head : ℕ) (fifo : Fifo) (efifo : Bool) (fifothr : �
   lost_falls : (work : Work) → ProperWork work → WorkFalls work (lost_of work head)
   unfolding lost_of no_id_of move_fails move_end format_end end_of
   lost_falls (Identifying site slot round) w =
-      end_falls _ img head _ _ Nothing (work_pos img head (Identifying site slot round) w)
+      end_falls _ img head _ _ None (work_pos img head (Identifying site slot round) w)
   lost_falls (Moving site task stage) w =
-      end_falls _ img head _ _ Nothing (work_pos img head (Moving site task stage) w)
+      end_falls _ img head _ _ None (work_pos img head (Moving site task stage) w)
   lost_falls (Formatting site plan form) w =
-      end_falls _ img head _ _ Nothing (work_pos img head (Formatting site plan form) w)
+      end_falls _ img head _ _ None (work_pos img head (Formatting site plan form) w)
 
   work_falls : (work : Work) → 0 < (site_of work).disk.slots → ProperWork work
       → WorkFalls work (work_step work head img fifo efifo fifothr)
@@ -713,19 +712,19 @@ module _ (g : Geometry) (img : List ℕ) (head : ℕ) (fifo : Fifo) (drive side 
       record { less = form_cost first_site; proper = (refl, (l, (some, omega arith))) }
 
   entered_falls : (job : Job) → ProperJob job
-      → FirstFalls (entered_of (gate_of (Present g) job side head) job drive side head fifo)
+      → FirstFalls (entered_of (gate_of (Some g) job side head) job drive side head fifo)
   unfolding gate_of entered_of end_of first_site
   entered_falls job p =
       by_test (not (has_track g head side)) (λ gate. FirstFalls (entered_of gate job drive side head fifo)) _ _
-      (λ t. end_falls g img head _ _ Nothing bound_pos)
+      (λ t. end_falls g img head _ _ None bound_pos)
       (λ t. by_test (changes job && g.protect) (λ gate. FirstFalls (entered_of gate job drive side head fifo)) _ _
-      (λ u. end_falls g img head _ _ Nothing bound_pos)
+      (λ u. end_falls g img head _ _ None bound_pos)
       (λ u. by_test (misplanned job g) (λ gate. FirstFalls (entered_of gate job drive side head fifo)) _ _
-      (λ m. end_falls g img head _ _ Nothing bound_pos)
+      (λ m. end_falls g img head _ _ None bound_pos)
       (λ m. start_falls job p m)))
 
   pub begin_falls : (order : Order) → order.drive ≡ drive → order.side ≡ side → ProperJob order.job → (disk : Disk)
-      → (disk ≡ Absent) ⊎ (disk ≡ Present g) → FirstFalls (begin_of order disk head fifo)
+      → (disk ≡ None) ⊎ (disk ≡ Some g) → FirstFalls (begin_of order disk head fifo)
   unfolding begin_of gate_of entered_of end_of
-  begin_falls order d s p disk (inl e) = rw e (end_falls g img head _ _ Nothing bound_pos)
+  begin_falls order d s p disk (inl e) = rw e (end_falls g img head _ _ None bound_pos)
   begin_falls order d s p disk (inr e) = rw (e, d, s) (entered_falls order.job p)

@@ -1,6 +1,8 @@
 -- What leaves a sector broken (specs/ShortSave): a write that has ended, not by a reset, with a sector begun has ended
 -- because its disk was gone, whatever images its ticks were handed.
 -- Assumes nothing.
+use Rattle.std.specs.Prelude.{None, Some}
+use Rattle.image.specs.Lent.{put_at}
 use Prim.Native.Nat.{ℕ, ◌+◌, ◌%◌, ◌<◌}
 use native.Mathlib.Omega.{arith}
 use native.Mathlib.Nat.{mod-eq_of_lt}
@@ -10,10 +12,8 @@ use mathlib.Core.Logic.{◌⊎◌, inl, inr}
 use mathlib.Core.Path.{◌≡◌, refl, sym, ap, ◌∙◌, subst}
 use borrow.Author.Tests.{ne_eqb}
 use Rattle.image.proofs.TestLaws.{by_test}
-use Rattle.image.specs.declared.disk.Disk.{Disk}
-use Rattle.image.specs.declared.disk.Disk.TheVariants.{Absent, Present}
+use Rattle.image.specs.Disk.{Disk}
 use Rattle.image.specs.declared.layout.Geometry.{Geometry}
-use Rattle.image.specs.declared.lent.Effect.TheVariants.{Store}
 use Rattle.image.specs.declared.slot.Id.{Id}
 use Rattle.image.specs.Lent.{pick_of}
 use Rattle.chip.specs.declared.fifo.Fifo.{Fifo}
@@ -123,13 +123,13 @@ OnThen K drive head begun (Works work) = OnWork K drive head begun work
 abbrev Gives : (Geometry → Type 0) → ℕ → ℕ → History → Step → Type 0
 Gives K drive head h o = OnThen K drive head (noted_store o.effect h).begun o.then
 
-began : (p v : ℕ) (h : History) → h.begun ≡ no_one → BegunAt p (noted_store (Store p v) h).begun
+began : (p v : ℕ) (h : History) → h.begun ≡ no_one → BegunAt p (noted_store (Some (put_at p v)) h).begun
 began p v h e = rw e (record { bytes = []; some = refl })
 
-grew : (p v at : ℕ) (h : History) → (p ≡ at → ⊥) → BegunAt at h.begun → BegunAt at (noted_store (Store p v) h).begun
+grew : (p v at : ℕ) (h : History) → (p ≡ at → ⊥) → BegunAt at h.begun → BegunAt at (noted_store (Some (put_at p v)) h).begun
 grew p v at h n b = rw (b.some, ne_eqb p at n) (record { bytes = b.bytes ++ (v ∷ []); some = refl })
 
-shuts : (p v : ℕ) (h : History) → BegunAt p h.begun → (noted_store (Store p v) h).begun ≡ no_one
+shuts : (p v : ℕ) (h : History) → BegunAt p h.begun → (noted_store (Some (put_at p v)) h).begun ≡ no_one
 shuts p v h b = ap (λ (x : History). x.begun) (noted_closed p v p b.bytes h refl b.some)
 
 waits_none : (site : Site) (head : ℕ) (begun : Begun) (stage : Stage) → Waits stage → Link site head begun stage
@@ -158,7 +158,7 @@ module _ (head : ℕ) (img : List ℕ) (efifo : Bool) (fifothr : ℕ) (site : Si
   byte_apart slot done e = omega arith
 
   next_gives : (tc : Bool) (slot v : ℕ) (o : Step) → BegunAt (mark_place site head slot) h.begun
-      → NextRule tc slot site task fifo (Store (mark_place site head slot) v) o → Gives Same site.drive head h o
+      → NextRule tc slot site task fifo (Some (put_at (mark_place site head slot) v)) o → Gives Same site.drive head h o
   next_gives tc slot v o b (stops verdict n e) = rw e (shuts _ v h b)
   next_gives tc slot v o b (turns t r m s e) = rw e (refl, refl, wr, shuts _ v h b)
   next_gives tc slot v o b (steps t r e) = rw e (refl, refl, wr, shuts _ v h b)
@@ -195,10 +195,10 @@ module _ (head : ℕ) (img : List ℕ) (efifo : Bool) (fifothr : ℕ) (site : Si
   rule_gives stage o k (drained sector looks p q x ok zc n) = absurd (rw p at k)
 
 -- 01 Data commands: a drive emptied or header changed later
-not_that : (g : Geometry) (seen : Disk) → stays_of seen g ≡ false → NotThatDisk (Present g) seen
+not_that : (g : Geometry) (seen : Disk) → stays_of seen g ≡ false → NotThatDisk (Some g) seen
 unfolding stays_of
-not_that g Absent t = no_disk refl
-not_that g (Present g') t = another g g' refl refl (λ e. true≢false (sym (rw e (same_geometry g)) ∙ t))
+not_that g None t = no_disk refl
+not_that g (Some g') t = another g g' refl refl (λ e. true≢false (sym (rw e (same_geometry g)) ∙ t))
 
 -- it ends with ST1 01, or 11, and stores nothing
 record Lost (o : Step) : Type 0 where
@@ -209,7 +209,7 @@ record Lost (o : Step) : Type 0 where
 -- a later tick goes by its rule, or finds another disk
 abbrev Goes : Site → Disk → ℕ → History → Step → Type 0
 Goes site seen head h o =
-    Gives (λ g. g ≡ site.disk) site.drive head h o ⊎ (NotThatDisk (Present site.disk) seen × Lost o)
+    Gives (λ g. g ≡ site.disk) site.drive head h o ⊎ (NotThatDisk (Some site.disk) seen × Lost o)
 
 later_gives : (site : Site) (task : Task) (stage : Stage) (seen : Disk) (head : ℕ) (img : List ℕ) (fifo : Fifo)
     (efifo : Bool) (fifothr : ℕ) (h : History) → task.transfer.pass ≡ Write → Link site head h.begun stage
@@ -225,17 +225,17 @@ later_gives site task stage seen head img fifo efifo fifothr h wr k =
 -- the first one
 first_gives : (order : Order) (transfer : Transfer) (id : Id) → order.job ≡ Move transfer id → transfer.pass ≡ Write
     → (seen : Disk) (head : ℕ)
-    → Gives (λ g. seen ≡ Present g) order.drive head no_history (begin_of order seen head emptied)
+    → Gives (λ g. seen ≡ Some g) order.drive head no_history (begin_of order seen head emptied)
 unfolding begin_of entered_of gate_of start_job end_of moving_of
-first_gives order transfer id j wr Absent head = refl
-first_gives order transfer id j wr (Present g) head = rw j
+first_gives order transfer id j wr None head = refl
+first_gives order transfer id j wr (Some g) head = rw j
     (by_test (not (has_track g head order.side))
-    (λ x. Gives (λ y. Present g ≡ Present y) order.drive head no_history
+    (λ x. Gives (λ y. Some g ≡ Some y) order.drive head no_history
     (entered_of x (Move transfer id) order.drive order.side head emptied)) _ _
     (λ t. refl)
     (λ t.
     by_test (changes (Move transfer id) && g.protect)
-    (λ x. Gives (λ y. Present g ≡ Present y) order.drive head no_history
+    (λ x. Gives (λ y. Some g ≡ Some y) order.drive head no_history
     (entered_of x (Move transfer id) order.drive order.side head emptied)) _ _
     (λ u. refl)
     (λ u. rw wr (refl, refl, refl, refl))))
@@ -251,7 +251,7 @@ module _ (order : Order) (transfer : Transfer) (id : Id) (job : order.job ≡ Mo
     top : Disk
     rest : List Disk
     is : saw ≡ top ∷ rest
-    met : met_in (top ∷ rest) ≡ Present g
+    met : met_in (top ∷ rest) ≡ Some g
 
   data Runs (c : Controller) (h : History) (saw : List Disk) : Type 0 where
     starts : c.phase ≡ Starting order → (drive_at drive c.drives).head ≡ cylinder → h ≡ no_history → saw ≡ []
@@ -301,7 +301,7 @@ module _ (order : Order) (transfer : Transfer) (id : Id) (job : order.job ≡ Mo
       let seen : Disk = seen_of c.registers.dor drive (pick_of drive a b) in
       tick_runs a b c h (seen ∷ saw) drive _ (tick_starts a b c order q p)
       (rw (z, s, head_is c u, empty_start c.phase _ c.fifo p q.good.phase)
-      (on_then _ _ _ _ (seen ∷ []) (λ g. seen ≡ Present g) u
+      (on_then _ _ _ _ (seen ∷ []) (λ g. seen ≡ Some g) u
       (λ g e. record { top = seen; rest = []; is = refl; met = e })
       (first_gives order transfer id job wr seen cylinder)))
   run_tick a b c h saw q w (works site task stage p u d wt k m) =
@@ -323,7 +323,7 @@ module _ (order : Order) (transfer : Transfer) (id : Id) (job : order.job ≡ Mo
             top = seen;
             rest = m.top ∷ m.rest;
             is = ap (λ (l : List Disk). seen ∷ l) m.is;
-            met = m.met ∙ ap Present (sym e);
+            met = m.met ∙ ap Some (sym e);
           })
           (rw d at x)
       go seen o (inr (n, l)) =

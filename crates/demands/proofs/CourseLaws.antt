@@ -1,6 +1,7 @@
 -- A command followed over a list of calls to its end: what every call keeps while the command is at work, and what that
 -- says once it is over. A call is split here alone into "tick or not".
 -- Assumes nothing.
+use Rattle.std.specs.Prelude.{None}
 use Prim.Native.Nat.{ℕ, ◌<◌, ◌%◌}
 use mathlib.Core.Bool.{true, false}
 use mathlib.Core.List.{List, [], ◌∷◌}
@@ -19,7 +20,6 @@ use Rattle.demands.proofs.CallRules.{NoTick}
 use Rattle.demands.proofs.SplitLaws.{tick_or_not, at_tick, image_same}
 use Rattle.demands.proofs.QuietLaws.{quiet_after}
 use Rattle.image.specs.declared.layout.Geometry.{Geometry}
-use Rattle.image.specs.declared.lent.Effect.TheVariants.{Nothing}
 use Rattle.image.specs.Layout.{same_of}
 use Rattle.image.proofs.TestLaws.{by_test, beq_self}
 use lib.Dec.{eqb}
@@ -68,7 +68,7 @@ module _ (a b : List ℕ) (drive : ℕ) (o : Step) (c : Controller) (e : ruled_o
       ∙ ap (λ (x : List Drive). (drive_at drive x).head) (settled_heads o.then o.fifo c)
 
   -- a tick that stores nothing leaves the image
-  pub tick_image : (k : ℕ) → o.effect ≡ Nothing → (img : List ℕ) → image_after k a b c img ≡ img
+  pub tick_image : (k : ℕ) → o.effect ≡ None → (img : List ℕ) → image_after k a b c img ≡ img
   unfolding image_after decided_of
   tick_image k n img = rw (e, n) (by_test (eqb drive k) (λ (x : List ℕ). x ≡ img) img img (λ _. refl) (λ _. refl))
 
@@ -132,7 +132,7 @@ module _ (order : Order) (low : order.drive < 4) (cylinder : ℕ) (img : List �
     → motor_in c.registers.dor order.drive ≡ true → pick_of order.drive a b ≡ img
     → (drive_at (order.drive % 4) c.drives).head ≡ cylinder → Tick c → Way c
     → (o : Step) × (ruled_of a b c ≡ decided_of order.drive o c)
-    × ((o.effect ≡ Nothing) × Way (settled_of o.then o.fifo c)))
+    × ((o.effect ≡ None) × Way (settled_of o.then o.fifo c)))
     (over : (c : Controller) → Way c → at_work c.phase ≡ false → Said c) where
   record Still (c : Controller) (image : List ℕ) : Type 0 where
     same : image ≡ img

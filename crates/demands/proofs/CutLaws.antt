@@ -1,6 +1,8 @@
 -- A write command at work, tick by tick, at the engine's level: what it has left of the image so far, and where it
 -- stands (01 Search, Write, Next).
 -- Assumes nothing.
+use Rattle.std.specs.Prelude.{None, Some}
+use Rattle.image.specs.Lent.{put_at}
 use Prim.Native.Nat.{ℕ, zero, suc, ◌+◌, ◌-◌, ◌*◌, ◌≤◌, ◌<◌}
 use native.Mathlib.Omega.{arith}
 use mathlib.Core.Bool.{Bool, true, false, ◌&&◌, cond, true≢false, false≢true, or-true}
@@ -12,7 +14,6 @@ use lib.ListN.{length, get_or, set, length-append, get_or-eq_default}
 use borrow.Author.Tests.{ltb-true, eqb-true, eq-eqb, ne_eqb, le-leb, lt-leb}
 use Rattle.image.proofs.TestLaws.{by_test, both, le_or_lt}
 use Rattle.image.specs.declared.layout.Geometry.{Geometry}
-use Rattle.image.specs.declared.lent.Effect.TheVariants.{Nothing, Store}
 use Rattle.image.specs.declared.mark.Mark.TheVariants.{Data}
 use Rattle.image.specs.declared.slot.Id.{Id}
 use Rattle.image.specs.Disk.{Fits}
@@ -93,12 +94,12 @@ marked_counts (suc v) t = (omega arith, at_most (le_or_lt 6 (suc v)))
 
 -- 01 Next: after a turn it goes on only where the track has that side
 pub turned_has : (slot : ℕ) (site : Site) (task : Task) (head : ℕ) (fifo : Fifo)
-    → turn_of slot site task head fifo ≡ moves_of (Searching (fresh_at slot)) site task fifo Nothing
+    → turn_of slot site task head fifo ≡ moves_of (Searching (fresh_at slot)) site task fifo None
     → has_track site.disk head site.side ≡ true
 unfolding turn_of move_fails move_end end_of
 turned_has slot site task head fifo =
     by_test (has_track site.disk head site.side)
-    (λ (s : Step). s ≡ moves_of (Searching (fresh_at slot)) site task fifo Nothing
+    (λ (s : Step). s ≡ moves_of (Searching (fresh_at slot)) site task fifo None
     → has_track site.disk head site.side ≡ true)
     _ _ (λ t e. t) (λ t e. let f = ap (λ (s : Step). s.then) e in let z : ◌≡◌ {A = ℕ} 0 1 = cc in absurd (omega arith))
 
@@ -125,15 +126,15 @@ closed at bytes h =
       begun = no_one;
     }
 
-noted_began : (p v at : ℕ) (h : History) → p ≡ at → h.begun ≡ no_one → noted_store (Store p v) h ≡ grown at [] h
+noted_began : (p v at : ℕ) (h : History) → p ≡ at → h.begun ≡ no_one → noted_store (Some (put_at p v)) h ≡ grown at [] h
 noted_began p v at h e b = rw (b, e)
 
 noted_grown : (p v at : ℕ) (bytes : List ℕ) (h : History) → p ≡ at + 5 + length bytes → h.begun ≡ some_of at bytes
-    → noted_store (Store p v) h ≡ grown at (bytes ++ (v ∷ [])) h
+    → noted_store (Some (put_at p v)) h ≡ grown at (bytes ++ (v ∷ [])) h
 noted_grown p v at bytes h e b = rw (b, ne_eqb p at (λ t. omega arith))
 
 pub noted_closed : (p v at : ℕ) (bytes : List ℕ) (h : History) → p ≡ at → h.begun ≡ some_of at bytes
-    → noted_store (Store p v) h ≡ closed at bytes h
+    → noted_store (Some (put_at p v)) h ≡ closed at bytes h
 noted_closed p v at bytes h e b = rw (b, eq-eqb p at e)
 
 pub some≢none : (at : ℕ) (bytes : List ℕ) → some_of at bytes ≡ no_one → ⊥
@@ -405,7 +406,7 @@ module _ (g : Geometry) (cylinder drive : ℕ) (transfer : Transfer) (aim : Aim)
       -- 01 Write: the broken mark
       busy_begins : (slot : ℕ) → FitsFifo efifo fifo → 0 < fifo.count → InHand (aim_now h) slot → h.begun ≡ no_one
           → Busy efifo site task (Storing slot 0) fifo (set img (mark_place site cylinder slot) (written_mark true task))
-          (noted_store (Store (mark_place site cylinder slot) (written_mark true task)) h)
+          (noted_store (Some (put_at (mark_place site cylinder slot) (written_mark true task))) h)
       busy_begins slot f c hand none =
           let p = mark_is slot b in
           let v : written_mark true task ≡ byte_of (Data transfer.deleted true) = rw b.told_to in
@@ -427,7 +428,7 @@ module _ (g : Geometry) (cylinder drive : ℕ) (transfer : Transfer) (aim : Aim)
           → (fifo'.tc ≡ true → task'.late ≡ false → h.told ≡ true) → (h.told ≡ true → fifo'.tc ≡ true)
           → (task'.late ≡ true → (length h.host ≤ stored_count g h) × (h.told ≡ false))
           → Busy efifo site task' (Storing slot (done + 1)) fifo' (set img (data_place site cylinder slot done) v)
-          (noted_store (Store (data_place site cylinder slot done) v) h)
+          (noted_store (Some (put_at (data_place site cylinder slot done) v)) h)
       unfolding data_place
       busy_puts task' slot done v fifo' same hand half l e o s t u y =
           let bytes = half.bytes in
@@ -586,7 +587,7 @@ module _ (g : Geometry) (cylinder drive : ℕ) (transfer : Transfer) (aim : Aim)
       -- and Next in that same tick
       busy_next : (slot done : ℕ) (o : Step) → FitsFifo efifo fifo → InHand (aim_now h) slot
           → Half h.begun (aim_now h) slot done → sector_bytes site ≤ done → task.late ≡ false
-          → NextRule (fifo.tc && eqb fifo.count 0) slot site task fifo (Store (mark_place site cylinder slot) (written_mark false task)) o
+          → NextRule (fifo.tc && eqb fifo.count 0) slot site task fifo (Some (put_at (mark_place site cylinder slot) (written_mark false task))) o
           → OnStep efifo o img h
       busy_next slot done o f hand half l on_time (stops verdict v e) =
           let note = noted_closed (mark_place site cylinder slot) (written_mark false task) (here slot)

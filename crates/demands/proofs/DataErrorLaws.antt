@@ -1,5 +1,6 @@
 -- Demand 3: the read after the cut ends with the data error (specs/DataError), over every list of calls.
 -- Assumes nothing.
+use Rattle.std.specs.Prelude.{Some}
 use Prim.Native.Nat.{ℕ, ◌+◌, ◌≤◌, ◌<◌}
 use native.Mathlib.Omega.{arith}
 use mathlib.Core.Bool.{Bool, beq, true, false, not}
@@ -10,7 +11,6 @@ use lib.ListN.{length, get_or}
 use Rattle.sectors.specs.declared.order.Order.{Order}
 use Rattle.sectors.specs.declared.order.Transfer.{Transfer}
 use Rattle.sectors.specs.Result.{late_bit}
-use Rattle.image.specs.declared.disk.Disk.TheVariants.{Present}
 use Rattle.image.specs.declared.layout.Geometry.{Geometry}
 use Rattle.image.specs.declared.mark.Mark.TheVariants.{Data}
 use Rattle.image.specs.declared.slot.Id.{Id}
@@ -141,7 +141,7 @@ data_error_if Served L serving Ends said c qc order transfer id w old g sound ca
     let present = fits_present old g sound.fits in
     let img : List ℕ = image_left order.drive old calls c in
     let left = power_cut_quiet c qc order transfer id w old g present calls its alone in
-    let disk : disk_in img ≡ Present g = disk_left g _ transfer _ old img _ left ∙ present in
+    let disk : disk_in img ≡ Some g = disk_left g _ transfer _ old img _ left ∙ present in
     ends_map _ _ (said order' id' transfer' transfer g) calls' e
     (ends_so img g disk order' (low_drive e order' qe r.accepted) (head_of order' e) r.slot transfer' id'
     r.moves transfer.deleted true

@@ -1,6 +1,8 @@
 -- Demand 1, "No command runs past its stated ticks, however the host behaves", over every list of calls (01 End,
 -- Commands Sense Drive). The ticks left (BoundLaws) fall with every tick, and no other call raises them.
 -- Assumes nothing.
+use Rattle.std.specs.Prelude.{None, Some}
+use Rattle.image.specs.Lent.{put_at}
 use Prim.Native.Nat.{ℕ, ◌+◌, ◌%◌, ◌≤◌, ◌<◌}
 use native.Mathlib.Omega.{arith}
 use mathlib.Core.Bool.{Bool, true, false, true≢false, false≢true}
@@ -8,11 +10,9 @@ use mathlib.Core.List.{List, [], ◌∷◌}
 use mathlib.Core.Logic.{◌⊎◌, inl, inr}
 use mathlib.Core.Path.{◌≡◌, refl, ap, ◌∙◌, subst}
 use borrow.Author.Tests.{eq-eqb}
-use Rattle.image.specs.declared.disk.Disk.{Disk}
-use Rattle.image.specs.declared.disk.Disk.TheVariants.{Absent, Present}
+use Rattle.image.specs.Disk.{Disk}
 use Rattle.image.specs.declared.layout.Geometry.{Geometry}
-use Rattle.image.specs.declared.lent.Effect.{Effect}
-use Rattle.image.specs.declared.lent.Effect.TheVariants.{Nothing, Store}
+use Rattle.image.specs.Lent.{Effect}
 use Rattle.image.specs.Disk.{disk_in}
 use Rattle.image.specs.Lent.{pick_of, stored_in}
 use Rattle.image.proofs.DiskLaws.{present_fits, store_keeps_disk}
@@ -68,15 +68,15 @@ settled_drives (then.Works work) fifo c = refl
 
 -- a store behind the header keeps the disk
 effect_keeps : (e : Effect) (img : List ℕ) → 13 ≤ store_place e → disk_in (stored_in e img) ≡ disk_in img
-effect_keeps Nothing img h = refl
-effect_keeps (Store at byte) img h = store_keeps_disk img at byte (omega arith)
+effect_keeps None img h = refl
+effect_keeps (Some put) img h = store_keeps_disk img put.at put.byte (omega arith)
 
 -- what a motor leaves of a disk
-seen_is : (dor drive : ℕ) (img : List ℕ) (g : Geometry) → disk_in img ≡ Present g
-    → (seen_of dor drive img ≡ Absent) ⊎ (seen_of dor drive img ≡ Present g)
+seen_is : (dor drive : ℕ) (img : List ℕ) (g : Geometry) → disk_in img ≡ Some g
+    → (seen_of dor drive img ≡ None) ⊎ (seen_of dor drive img ≡ Some g)
 unfolding seen_of
 seen_is dor drive img g e =
-    by_test (motor_in dor drive) (λ (d : Disk). (d ≡ Absent) ⊎ (d ≡ Present g)) _ _ (λ t. inr e) (λ t. inl refl)
+    by_test (motor_in dor drive) (λ (d : Disk). (d ≡ None) ⊎ (d ≡ Some g)) _ _ (λ t. inr e) (λ t. inl refl)
 
 module _ (drive : ℕ) (g : Geometry) where
   -- a command of that drive, on that disk from its first tick on
@@ -132,12 +132,12 @@ module _ (drive : ℕ) (g : Geometry) where
   -- what a call leaves of a command at work
   record Goes (img : List ℕ) (call : Call) (c : Controller) : Type 0 where
     on : On (after call c).phase
-    disk : disk_in (image_by drive img call c) ≡ Present g
+    disk : disk_in (image_by drive img call c) ≡ Some g
     left : phase_left (image_by drive img call c) (head_at drive (after call c)) (after call c).phase + tick_one call
         ≤ phase_left img (head_at drive c) c.phase
 
   -- a tick, by what the engine decides
-  tick_goes : (img a b : List ℕ) (c : Controller) (step : Step) → disk_in img ≡ Present g
+  tick_goes : (img a b : List ℕ) (c : Controller) (step : Step) → disk_in img ≡ Some g
       → ruled_of a b c ≡ decided_of drive step c
       → Falls g img (head_at drive c) (phase_left img (head_at drive c) c.phase) step
       → 13 ≤ store_place step.effect → then_drive drive step.then ≡ drive → Goes img (ticks a b) c
@@ -158,7 +158,7 @@ module _ (drive : ℕ) (g : Geometry) where
       }
 
 -- the first tick, and each later one
-module _ (g : Geometry) (img a b : List ℕ) (c : Controller) (q : Quiet c) (d : disk_in img ≡ Present g) where
+module _ (g : Geometry) (img a b : List ℕ) (c : Controller) (q : Quiet c) (d : disk_in img ≡ Some g) where
   some_slots : 0 < g.slots
   some_slots = (present_fits img g d).range.slots.0
 
@@ -195,7 +195,7 @@ module _ (g : Geometry) (img a b : List ℕ) (c : Controller) (q : Quiet c) (d :
 
 module _ (drive : ℕ) (g : Geometry) where
   tick_goes_in : (img a b : List ℕ) (c : Controller) (p : Phase) → c.phase ≡ p → Quiet c → On drive g p
-      → disk_in img ≡ Present g → at_work p ≡ true → pick_of drive a b ≡ img → Goes drive g img (ticks a b) c
+      → disk_in img ≡ Some g → at_work p ≡ true → pick_of drive a b ≡ img → Goes drive g img (ticks a b) c
   tick_goes_in img a b c Idle e q o d w h = absurd (false≢true w)
   tick_goes_in img a b c (Gathering entry) e q o d w h = absurd (false≢true w)
   tick_goes_in img a b c (Starting order) e q o d w h =
@@ -219,14 +219,14 @@ module _ (drive : ℕ) (g : Geometry) where
       record { on = rw k.phase o; left = rw (k.phase, k.heads (drive % 4) (omega arith)) (omega arith) }
 
   other_goes : (img : List ℕ) (call : Call) (c : Controller) → Quiet c → at_work c.phase ≡ true → NoTick call
-      → On drive g c.phase → disk_in img ≡ Present g → Goes drive g img call c
+      → On drive g c.phase → disk_in img ≡ Some g → Goes drive g img call c
   other_goes img call c q w n o d =
       let s = stays img call c (after call c) (call_rule call c q w n) o in
       let i = image_same drive img call c n in
       record { on = s.on; disk = rw i d; left = rw (i, no_tick call n) (omega (arith, s.left)) }
 
   call_goes : (img : List ℕ) (call : Call) (c : Controller) → Quiet c → at_work c.phase ≡ true → On drive g c.phase
-      → disk_in img ≡ Present g → Handed drive img call → Goes drive g img call c
+      → disk_in img ≡ Some g → Handed drive img call → Goes drive g img call c
   call_goes img call c q w o d h =
       tick_or_not
       (λ x. Handed drive img x → Goes drive g img x c)
@@ -235,7 +235,7 @@ module _ (drive : ℕ) (g : Geometry) where
 
   -- no more ticks than are left
   pub ends_by : (calls : List Call) (img : List ℕ) (c : Controller) → Quiet c → On drive g c.phase
-      → disk_in img ≡ Present g → Alone drive img calls c
+      → disk_in img ≡ Some g → Alone drive img calls c
       → phase_left drive g img (head_at drive c) c.phase ≤ tick_count calls → EndsWith Anyhow calls c
   unfolding EndsWith Alone
   ends_by [] img c q o d alone l = go (at_work c.phase) refl

@@ -1,6 +1,7 @@
 -- A read that its first sector stops, under a broken mark or, with SK 0, under one of the other kind: every tick of it
 -- goes on towards that sector's end, and it ends there, with the 10 of a late byte or without (01 Search, Read).
 -- Assumes nothing.
+use Rattle.std.specs.Prelude.{None}
 use Prim.Native.Nat.{ℕ, ◌+◌, ◌≤◌, ◌<◌}
 use native.Mathlib.Omega.{arith}
 use mathlib.Core.Bool.{Bool, beq, true, false, ◌&&◌, not, cond, true≢false}
@@ -27,7 +28,6 @@ use Rattle.sectors.specs.Result.{st0_of, other_bit, late_bit, moves_of}
 use Rattle.sectors.specs.Search.{matches}
 use Rattle.sectors.specs.Track.{mark_place}
 use Rattle.image.specs.declared.layout.Geometry.{Geometry}
-use Rattle.image.specs.declared.lent.Effect.TheVariants.{Nothing}
 use Rattle.image.specs.declared.mark.Mark.{Mark}
 use Rattle.image.specs.declared.mark.Mark.TheVariants.{Data, NoData}
 use Rattle.image.specs.declared.slot.Id.{Id}
@@ -131,10 +131,10 @@ EndsSo broken other lost site id v =
 pub data Follow (broken other : Bool) (t : ℕ) (site : Site) (transfer : Transfer) (id : Id) (L : Type 0) (o : Step)
     : Type 0 where
   goes : (lost : Bool) (stage : Stage) (fifo : Fifo) → (lost ≡ true → L) → OnStage broken other t stage
-      → o ≡ moves_of stage site (task_on other lost transfer id stage) fifo Nothing
+      → o ≡ moves_of stage site (task_on other lost transfer id stage) fifo None
       → Follow broken other t site transfer id L o
   ends : (lost : Bool) (verdict : Verdict) → (lost ≡ true → L) → EndsSo broken other lost site id verdict
-      → o ≡ ends_with verdict Nothing
+      → o ≡ ends_with verdict None
       → Follow broken other t site transfer id L o
 
 abbrev id_of : ℕ → ℕ → ℕ → ℕ → Id

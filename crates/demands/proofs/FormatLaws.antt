@@ -1,6 +1,8 @@
 -- The script of a Format (specs/FormatScript), over every list of its calls: each tick at work makes the script's next
 -- store, waits, or ends; no other call stores.
 -- Assumes nothing.
+use Rattle.std.specs.Prelude.{None, Some}
+use Rattle.image.specs.Lent.{put_at}
 use Prim.Native.Nat.{ℕ, ◌+◌, ◌*◌, ◌%◌, ◌≤◌, ◌<◌}
 use native.Mathlib.Nat.{mod-eq_of_lt}
 use native.Mathlib.Omega.{arith}
@@ -13,10 +15,8 @@ use lib.Seq.{take-length}
 use borrow.Author.Tests.{eq-eqb, ne_eqb}
 use Rattle.image.proofs.DiskLaws.{present_fits}
 use Rattle.image.proofs.TestLaws.{by_test}
-use Rattle.image.specs.declared.disk.Disk.{Disk}
-use Rattle.image.specs.declared.disk.Disk.TheVariants.{Present}
+use Rattle.image.specs.Disk.{Disk}
 use Rattle.image.specs.declared.layout.Geometry.{Geometry}
-use Rattle.image.specs.declared.lent.Effect.TheVariants.{Nothing, Store}
 use Rattle.image.specs.Disk.{disk_in}
 use Rattle.image.specs.Layout.{size_of, offset_of}
 use Rattle.image.specs.Lent.{pick_of, stored_in, stored_as}
@@ -300,7 +300,7 @@ module _ (g : Geometry) (cylinder drive side : ℕ) (plan : Plan) (old : List �
         → plan.sc ≤ slot + 1 → slot < g.slots → place (Clearing (slot + 1)) ≡ place form + 1
         → drawn_in g cylinder side plan form ≡ plan.sc * slot_draws
         → part_of host (Clearing (slot + 1)) ≡ part_of host form ++ (record { at = at; byte = byte } ∷ [])
-        → ClearRule cylinder efifo fifothr site plan fifo slot (Store at byte) o → Gives o
+        → ClearRule cylinder efifo fifothr site plan fifo slot (Some (put_at at byte)) o → Gives o
     clear_on_lem form slot at byte o b n l h q d e (clears_on k eq) =
         rw eq (record {
           form = Clearing (slot + 1);
@@ -447,7 +447,7 @@ module _ (g : Geometry) (cylinder drive side : ℕ) (plan : Plan) (old : List �
       (λ t. (busy_left b, fails_says b 0x01 (inr refl) (λ e. absurd (omega arith))))
 
 -- The first tick of the order.
-module _ (g : Geometry) (cylinder : ℕ) (order : Order) (plan : Plan) (old : List ℕ) (disk : disk_in old ≡ Present g)
+module _ (g : Geometry) (cylinder : ℕ) (order : Order) (plan : Plan) (old : List ℕ) (disk : disk_in old ≡ Some g)
     (job : order.job ≡ Format plan) where
   some_slots : 0 < g.slots
   some_slots = (present_fits old g disk).range.slots.0
@@ -456,15 +456,15 @@ module _ (g : Geometry) (cylinder : ℕ) (order : Order) (plan : Plan) (old : Li
   Starts efifo o = OnStep g cylinder order.drive order.side plan old efifo o old [] 0
 
   -- what a tick finds is the disk, if anything
-  seen_same : (dor drive : ℕ) (h : Geometry) → seen_of dor drive old ≡ Present h → h ≡ g
+  seen_same : (dor drive : ℕ) (h : Geometry) → seen_of dor drive old ≡ Some h → h ≡ g
   unfolding seen_of
   seen_same dor drive h =
-      by_test (motor_in dor drive) (λ (d : Disk). d ≡ Present h → h ≡ g) _ _
+      by_test (motor_in dor drive) (λ (d : Disk). d ≡ Some h → h ≡ g) _ _
       (λ t e. present_same h g (sym e ∙ disk)) (λ t e. absurd (absent≢present h e))
 
   shut : (efifo : Bool) (st1 : ℕ) (o : Step) → (st1 ≡ 0x00 → ⊥) → (st1 ≡ 0x10 → ⊥) → (st1 ≡ 0x02 → g.protect ≡ true)
       → (st1 ≡ 0x04 → Allowed g cylinder order.side plan → ⊥)
-      → o ≡ ends_with (form_verdict false st1 0 order.drive order.side plan cylinder) Nothing → Starts efifo o
+      → o ≡ ends_with (form_verdict false st1 0 order.drive order.side plan cylinder) None → Starts efifo o
   shut efifo st1 o no_00 no_10 is_02 is_04 eq =
       rw eq (
         left_none g cylinder order.drive order.side plan old,
@@ -494,7 +494,7 @@ module _ (g : Geometry) (cylinder : ℕ) (order : Order) (plan : Plan) (old : Li
   first_step efifo dor = first_starts efifo dor _ (first_rule order plan cylinder emptied _ job)
 
 -- Lists of calls.
-module _ (g : Geometry) (cylinder : ℕ) (order : Order) (plan : Plan) (old : List ℕ) (disk : disk_in old ≡ Present g)
+module _ (g : Geometry) (cylinder : ℕ) (order : Order) (plan : Plan) (old : List ℕ) (disk : disk_in old ≡ Some g)
     (job : order.job ≡ Format plan) (hd : order.drive < 4) where
   abbrev drive : ℕ
   drive = order.drive

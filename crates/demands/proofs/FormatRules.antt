@@ -2,6 +2,8 @@
 -- theorems over lists of calls go by (01 Format, First tick). Each rule carries what holds where it is taken, and what
 -- it gives, as equations.
 -- Assumes nothing.
+use Rattle.std.specs.Prelude.{None, Some}
+use Rattle.image.specs.Lent.{put_at}
 use Prim.Native.Nat.{ℕ, ◌+◌, ◌≤◌, ◌<◌}
 use native.Mathlib.Omega.{arith}
 use mathlib.Core.Bool.{Bool, true, false, not, ◌&&◌, true≢false, false≢true}
@@ -9,11 +11,9 @@ use mathlib.Core.Path.{◌≡◌, refl, sym, ap, ◌∙◌, subst}
 use lib.Dec.{eqb, leb, ltb}
 use borrow.Author.Tests.{leb-true, leb-false, ltb-true, ltb-false, lt-ltb, le-ltb, eqb-true, eqb-false, eq-eqb, ne_eqb, not-false}
 use Rattle.image.proofs.TestLaws.{by_test, both}
-use Rattle.image.specs.declared.disk.Disk.{Disk}
-use Rattle.image.specs.declared.disk.Disk.TheVariants.{Absent, Present}
+use Rattle.image.specs.Disk.{Disk}
 use Rattle.image.specs.declared.layout.Geometry.{Geometry}
-use Rattle.image.specs.declared.lent.Effect.{Effect}
-use Rattle.image.specs.declared.lent.Effect.TheVariants.{Nothing, Store}
+use Rattle.image.specs.Lent.{Effect}
 use Rattle.image.specs.declared.mark.Mark.TheVariants.{NoId, Data}
 use Rattle.image.specs.Mark.{byte_of}
 use Rattle.chip.specs.declared.fifo.Fifo.{Fifo}
@@ -30,16 +30,16 @@ use Rattle.sectors.specs.declared.work.Verdict.{Verdict}
 use Rattle.sectors.specs.Result.{st0_of, end_of}
 use Rattle.sectors.specs.Track.{has_track, data_place, mark_place, sector_bytes}
 use Rattle.engine.specs.First.{changes, misplanned, gate_of, given_id, start_job, entered_of, begin_of}
-use Rattle.engine.specs.Format.{format_id, format_end, forms_of, laid_of, form_await, address_put, address_of, clear_on, formed_of, fill_of, clear_of, form_of}
+use Rattle.engine.specs.Format.{format_id, format_end, forms_of, form_await, address_put, address_of, clear_on, formed_of, fill_of, clear_of, form_of}
 use Rattle.demands.specs.FormatScript.{Allowed}
 use Rattle.demands.specs.InTime.{LateForm}
 use Rattle.demands.proofs.RequestLaws.{or_off}
 use Rattle.demands.proofs.TickRules.{ends_with, pos_ne}
 
-pub present_same : (g h : Geometry) → Present g ≡ Present h → g ≡ h
+pub present_same : (g h : Geometry) → Some g ≡ Some h → g ≡ h
 present_same g h e = cc
 
-pub absent≢present : (g : Geometry) → Absent ≡ Present g → ⊥
+pub absent≢present : (g : Geometry) → None ≡ Some g → ⊥
 absent≢present g e = let z : ◌≡◌ {A = ℕ} 0 1 = cc in omega arith
 
 -- 01 Format, Result: what an end says
@@ -50,14 +50,14 @@ form_verdict normal st1 done drive side plan head =
 -- the first tick
 module _ (drive side : ℕ) (plan : Plan) (head : ℕ) (fifo : Fifo) where
   pub data FirstRule (disk : Disk) (o : Step) : Type 0 where
-    nothing_there : ((g : Geometry) → disk ≡ Present g → Allowed g head side plan → ⊥)
-        → o ≡ ends_with (form_verdict false 0x01 0 drive side plan head) Nothing → FirstRule disk o
-    is_protected : (g : Geometry) → disk ≡ Present g → g.protect ≡ true
-        → o ≡ ends_with (form_verdict false 0x02 0 drive side plan head) Nothing → FirstRule disk o
-    is_misplanned : (g : Geometry) → disk ≡ Present g → (Allowed g head side plan → ⊥)
-        → o ≡ ends_with (form_verdict false 0x04 0 drive side plan head) Nothing → FirstRule disk o
-    opens : (g : Geometry) → disk ≡ Present g → Allowed g head side plan
-        → o ≡ forms_of (Awaiting 0 0) (record { drive = drive; side = side; disk = g }) plan (opened_of fifo) Nothing
+    nothing_there : ((g : Geometry) → disk ≡ Some g → Allowed g head side plan → ⊥)
+        → o ≡ ends_with (form_verdict false 0x01 0 drive side plan head) None → FirstRule disk o
+    is_protected : (g : Geometry) → disk ≡ Some g → g.protect ≡ true
+        → o ≡ ends_with (form_verdict false 0x02 0 drive side plan head) None → FirstRule disk o
+    is_misplanned : (g : Geometry) → disk ≡ Some g → (Allowed g head side plan → ⊥)
+        → o ≡ ends_with (form_verdict false 0x04 0 drive side plan head) None → FirstRule disk o
+    opens : (g : Geometry) → disk ≡ Some g → Allowed g head side plan
+        → o ≡ forms_of (Awaiting 0 0) (record { drive = drive; side = side; disk = g }) plan (opened_of fifo) None
         → FirstRule disk o
 
   -- 01 Data commands: Format with N not the header's, SC 0 or SC above S
@@ -81,7 +81,7 @@ module _ (drive side : ℕ) (plan : Plan) (head : ℕ) (fifo : Fifo) where
 
   -- no such track or side
   trackless : (g : Geometry) → not (has_track g head side) ≡ true
-      → (g' : Geometry) → Present g ≡ Present g' → Allowed g' head side plan → ⊥
+      → (g' : Geometry) → Some g ≡ Some g' → Allowed g' head side plan → ⊥
   unfolding has_track
   trackless g t g' e a =
       let s : g' ≡ g = present_same g' g (sym e) in
@@ -91,18 +91,18 @@ module _ (drive side : ℕ) (plan : Plan) (head : ℕ) (fifo : Fifo) where
   entered_rule : (disk : Disk)
       → FirstRule disk (entered_of (gate_of disk (Format plan) side head) (Format plan) drive side head fifo)
   unfolding gate_of has_track entered_of given_id start_job end_of
-  entered_rule Absent = nothing_there (λ g e a. absent≢present g e) refl
-  entered_rule (Present g) =
+  entered_rule None = nothing_there (λ g e a. absent≢present g e) refl
+  entered_rule (Some g) =
       by_test (not (has_track g head side))
-      (λ x. FirstRule (Present g) (entered_of x (Format plan) drive side head fifo)) _ _
+      (λ x. FirstRule (Some g) (entered_of x (Format plan) drive side head fifo)) _ _
       (λ t. nothing_there (trackless g t) refl)
       (λ t.
       by_test (changes (Format plan) && g.protect)
-      (λ x. FirstRule (Present g) (entered_of x (Format plan) drive side head fifo)) _ _
+      (λ x. FirstRule (Some g) (entered_of x (Format plan) drive side head fifo)) _ _
       (λ u. is_protected g refl u refl)
       (λ u.
       by_test (misplanned (Format plan) g)
-      (λ x. FirstRule (Present g) (entered_of x (Format plan) drive side head fifo)) _ _
+      (λ x. FirstRule (Some g) (entered_of x (Format plan) drive side head fifo)) _ _
       (λ v. is_misplanned g refl (unplanned g v) refl)
       (λ v.
       let (on_disk, on_cylinder) = both (ltb head g.cylinders) (ltb side g.heads) (not-false _ t) in
@@ -128,8 +128,8 @@ first_rule order plan head fifo disk job =
 
 -- on a disk that may be formatted nothing else is left
 pub allowed_opens : (drive side : ℕ) (plan : Plan) (head : ℕ) (fifo : Fifo) (g : Geometry) (o : Step)
-    → Allowed g head side plan → FirstRule drive side plan head fifo (Present g) o
-    → o ≡ forms_of (Awaiting 0 0) (record { drive = drive; side = side; disk = g }) plan (opened_of fifo) Nothing
+    → Allowed g head side plan → FirstRule drive side plan head fifo (Some g) o
+    → o ≡ forms_of (Awaiting 0 0) (record { drive = drive; side = side; disk = g }) plan (opened_of fifo) None
 allowed_opens drive side plan head fifo g o ok (nothing_there k eq) = absurd (k g refl ok)
 allowed_opens drive side plan head fifo g o ok (is_protected h e p eq) =
     absurd (true≢false (sym p ∙ ap (λ (x : Geometry). x.protect) (present_same h g (sym e)) ∙ ok.unprotected))
@@ -148,34 +148,34 @@ module _ (head : ℕ) (efifo : Bool) (fifothr : ℕ) (site : Site) (plan : Plan)
 
   pub data FormRule (form : Form) (o : Step) : Type 0 where
     late_first : (slot wait : ℕ) → form ≡ Awaiting slot wait → fifo.count ≡ 0 → 63 ≤ wait
-        → o ≡ ends_with (form_verdict false 0x10 slot site.drive site.side plan head) Nothing → FormRule form o
+        → o ≡ ends_with (form_verdict false 0x10 slot site.drive site.side plan head) None → FormRule form o
     late_later : (slot k : ℕ) → form ≡ Addressing slot k → fifo.count ≡ 0
-        → o ≡ ends_with (form_verdict false 0x10 slot site.drive site.side plan head) Nothing → FormRule form o
+        → o ≡ ends_with (form_verdict false 0x10 slot site.drive site.side plan head) None → FormRule form o
     waits : (slot wait : ℕ) → form ≡ Awaiting slot wait → fifo.count ≡ 0 → wait < 63
-        → o ≡ forms_of (Awaiting slot (wait + 1)) site plan fifo Nothing → FormRule form o
+        → o ≡ forms_of (Awaiting slot (wait + 1)) site plan fifo None → FormRule form o
     begins : (slot wait : ℕ) → form ≡ Awaiting slot wait → 0 < fifo.count
-        → o ≡ forms_of (Addressing slot 0) site plan fifo (Store (mark_place site head slot) (byte_of NoId))
+        → o ≡ forms_of (Addressing slot 0) site plan fifo (Some (put_at (mark_place site head slot) (byte_of NoId)))
         → FormRule form o
     addresses : (slot k : ℕ) → form ≡ Addressing slot k → 0 < fifo.count → k < 3
         → o ≡ forms_of (Addressing slot (k + 1)) site plan (drawn_of efifo fifothr fifo)
-        (Store (mark_place site head slot + 1 + k) (front_of fifo))
+        (Some (put_at (mark_place site head slot + 1 + k) (front_of fifo)))
         → FormRule form o
     addresses_last : (slot k : ℕ) → form ≡ Addressing slot k → 0 < fifo.count → 3 ≤ k
         → o ≡ forms_of (Filling slot 0) site plan (drawn_of efifo fifothr fifo)
-        (Store (mark_place site head slot + 1 + k) (front_of fifo))
+        (Some (put_at (mark_place site head slot + 1 + k) (front_of fifo)))
         → FormRule form o
     fills : (slot done : ℕ) → form ≡ Filling slot done → done < sector_bytes site
-        → o ≡ forms_of (Filling slot (done + 1)) site plan (laid_of plan fifo efifo fifothr).fifo
-        (Store (data_place site head slot done) (laid_of plan fifo efifo fifothr).byte)
+        → o ≡ forms_of (Filling slot (done + 1)) site plan fifo
+        (Some (put_at (data_place site head slot done) plan.fill))
         → FormRule form o
     marks : (slot done : ℕ) → form ≡ Filling slot done → sector_bytes site ≤ done → slot + 1 < plan.sc
         → o ≡ forms_of (Awaiting (slot + 1) 0) site plan fifo
-        (Store (mark_place site head slot) (byte_of (Data false false)))
+        (Some (put_at (mark_place site head slot) (byte_of (Data false false))))
         → FormRule form o
     marks_last : (slot done : ℕ) → form ≡ Filling slot done → sector_bytes site ≤ done → plan.sc ≤ slot + 1
-        → ClearRule slot (Store (mark_place site head slot) (byte_of (Data false false))) o
+        → ClearRule slot (Some (put_at (mark_place site head slot) (byte_of (Data false false)))) o
         → FormRule form o
-    clears : (slot : ℕ) → form ≡ Clearing slot → ClearRule slot (Store (mark_place site head slot) (byte_of NoId)) o
+    clears : (slot : ℕ) → form ≡ Clearing slot → ClearRule slot (Some (put_at (mark_place site head slot) (byte_of NoId))) o
         → FormRule form o
 
   pos_of : eqb fifo.count 0 ≡ false → 0 < fifo.count

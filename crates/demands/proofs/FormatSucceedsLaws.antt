@@ -1,14 +1,13 @@
 -- When a Format succeeds (specs/FormatSucceeds): with the motor on its disk stays as it was, since its stores are
 -- behind the header; served in time no end is left but the normal one, and the bound's ticks bring it.
 -- Assumes nothing.
+use Rattle.std.specs.Prelude.{None, Some}
 use Prim.Native.Nat.{ℕ, ◌<◌}
 use mathlib.Core.Bool.{Bool, true, false, true≢false, false≢true}
 use mathlib.Core.List.{List, [], ◌∷◌}
 use mathlib.Core.Logic.{◌⊎◌, inl, inr}
 use mathlib.Core.Path.{◌≡◌, refl, sym, ap, ◌∙◌}
-use Rattle.image.specs.declared.disk.Disk.TheVariants.{Present}
 use Rattle.image.specs.declared.layout.Geometry.{Geometry}
-use Rattle.image.specs.declared.lent.Effect.TheVariants.{Nothing}
 use Rattle.image.specs.Disk.{disk_in}
 use Rattle.image.specs.Lent.{pick_of}
 use Rattle.chip.specs.declared.fifo.Fifo.{Fifo}
@@ -53,7 +52,7 @@ use Rattle.demands.proofs.FormatRules.{form_verdict, first_rule, allowed_opens, 
 use Rattle.demands.proofs.FormatStaysLaws.{left_disk}
 use Rattle.demands.proofs.QuietLaws.{quiet_real, quiet_after}
 
-module _ (g : Geometry) (cylinder : ℕ) (order : Order) (plan : Plan) (old : List ℕ) (disk : disk_in old ≡ Present g)
+module _ (g : Geometry) (cylinder : ℕ) (order : Order) (plan : Plan) (old : List ℕ) (disk : disk_in old ≡ Some g)
     (job : order.job ≡ Format plan) (hd : order.drive < 4) (ok : Allowed g cylinder order.side plan) where
   abbrev drive : ℕ
   drive = order.drive
@@ -69,12 +68,12 @@ module _ (g : Geometry) (cylinder : ℕ) (order : Order) (plan : Plan) (old : Li
   -- The first tick.
   first_well : (dor : ℕ) → motor_in dor drive ≡ true
       → begin_of order (seen_of dor drive old) cylinder emptied
-      ≡ forms_of (Awaiting 0 0) here plan (opened_of emptied) Nothing
+      ≡ forms_of (Awaiting 0 0) here plan (opened_of emptied) None
   unfolding seen_of
   first_well dor motor =
       rw (motor, disk)
       (allowed_opens drive order.side plan cylinder emptied g _ ok
-      (first_rule order plan cylinder emptied (Present g) job))
+      (first_rule order plan cylinder emptied (Some g) job))
 
   -- A later tick.
   module _ (efifo : Bool) (fifothr : ℕ) (fifo : Fifo) where
@@ -82,7 +81,7 @@ module _ (g : Geometry) (cylinder : ℕ) (order : Order) (plan : Plan) (old : Li
     rule_well o (still_forms form fifo' effect eq) = rw eq tt
     rule_well o (ends_whole effect eq) = rw eq refl
 
-    later_well : (form : Form) (dor : ℕ) (img : List ℕ) → motor_in dor drive ≡ true → disk_in img ≡ Present g
+    later_well : (form : Form) (dor : ℕ) (img : List ℕ) → motor_in dor drive ≡ true → disk_in img ≡ Some g
         → (LateForm fifo form → ⊥)
         → WellThen (go_on_of (Formatting here plan form) (seen_of dor drive img) cylinder img fifo efifo fifothr).then
     unfolding go_on_of work_step seen_of stays_of
@@ -125,14 +124,14 @@ module _ (g : Geometry) (cylinder : ℕ) (order : Order) (plan : Plan) (old : Li
   Running c img h m = Run g cylinder order plan old disk job hd c img h m
 
   -- its stores leave the header as it was
-  run_disk : (c : Controller) (img : List ℕ) (h : History) (m : ℕ) → Running c img h m → disk_in img ≡ Present g
+  run_disk : (c : Controller) (img : List ℕ) (h : History) (m : ℕ) → Running c img h m → disk_in img ≡ Some g
   run_disk c img h m r =
       left_disk g cylinder order.side drive plan h.host old img m
       (run_formatted g cylinder order plan old disk job hd r).left ∙ disk
 
   run_tick_fine : (a b : List ℕ) (c : Controller) (img : List ℕ) (h : History) (m : ℕ) → Quiet c
       → at_work c.phase ≡ true → motor_in c.registers.dor drive ≡ true → pick_of drive a b ≡ img → Timely c
-      → disk_in img ≡ Present g → Running c img h m → Fine (after (ticks a b) c)
+      → disk_in img ≡ Some g → Running c img h m → Fine (after (ticks a b) c)
   run_tick_fine a b c img h m q w motor e s there (is_over n k t) = absurd (false≢true (sym n ∙ w))
   run_tick_fine a b c img h m q w motor e s there (to_start p u i f z) =
       tick_fine a b c drive _ (tick_starts a b c order q p)

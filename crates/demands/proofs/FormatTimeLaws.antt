@@ -1,5 +1,6 @@
 -- Which host is in time for a Format, and that in time it never ends with ST1 10 (specs/FormatSucceeds).
 -- Assumes nothing.
+use Rattle.std.specs.Prelude.{Some}
 use Prim.Native.Nat.{ℕ, ◌*◌, ◌≤◌, ◌<◌}
 use native.Mathlib.Omega.{arith}
 use mathlib.Core.Bool.{Bool, true, false, true≢false, false≢true}
@@ -7,10 +8,9 @@ use mathlib.Core.List.{List, [], ◌∷◌}
 use mathlib.Core.Logic.{◌⊎◌, inl, inr}
 use mathlib.Core.Path.{◌≡◌, refl, sym, ap, ◌∙◌}
 use lib.ListN.{length}
-use Rattle.image.specs.declared.disk.Disk.{Disk}
-use Rattle.image.specs.declared.disk.Disk.TheVariants.{Present}
+use Rattle.image.specs.Disk.{Disk}
 use Rattle.image.specs.declared.layout.Geometry.{Geometry}
-use Rattle.image.specs.declared.lent.Effect.{Effect}
+use Rattle.image.specs.Lent.{Effect}
 use Rattle.image.specs.Disk.{disk_in}
 use Rattle.image.proofs.TestLaws.{by_test}
 use Rattle.chip.specs.declared.fifo.Fifo.{Fifo}
@@ -70,7 +70,7 @@ prompt_served n (call ∷ calls) c h p =
     )
 
 -- Served up to four bytes for each slot.
-module _ (g : Geometry) (cylinder : ℕ) (order : Order) (plan : Plan) (old : List ℕ) (disk : disk_in old ≡ Present g)
+module _ (g : Geometry) (cylinder : ℕ) (order : Order) (plan : Plan) (old : List ℕ) (disk : disk_in old ≡ Some g)
     (job : order.job ≡ Format plan) (hd : order.drive < 4) where
   abbrev drive : ℕ
   drive = order.drive

@@ -1,6 +1,7 @@
 -- What a read command hands the host (specs/HandedOver), over every list of its calls: tick by tick at the engine's
 -- level, then call by call at the record.
 -- Assumes nothing.
+use Rattle.std.specs.Prelude.{None, Some}
 use Prim.Native.Nat.{ℕ, suc, ◌+◌, ◌-◌, ◌*◌, ◌/◌, ◌%◌, ◌≤◌, ◌<◌}
 use native.Mathlib.Nat.{mod-eq_of_lt}
 use native.Mathlib.Omega.{arith}
@@ -13,11 +14,9 @@ use lib.ListN.{length, get_or}
 use borrow.Author.Tests.{ltb-true, lt-ltb, le-ltb, eqb-true, not-false}
 use Rattle.image.proofs.DiskLaws.{present_fits}
 use Rattle.image.proofs.TestLaws.{by_test, both, le_or_lt}
-use Rattle.image.specs.declared.disk.Disk.{Disk}
-use Rattle.image.specs.declared.disk.Disk.TheVariants.{Absent, Present}
+use Rattle.image.specs.Disk.{Disk}
 use Rattle.image.specs.declared.layout.Geometry.{Geometry}
-use Rattle.image.specs.declared.lent.Effect.{Effect}
-use Rattle.image.specs.declared.lent.Effect.TheVariants.{Nothing}
+use Rattle.image.specs.Lent.{Effect}
 use Rattle.image.specs.declared.mark.Mark.{Mark}
 use Rattle.image.specs.declared.mark.Mark.TheVariants.{NoId, Data}
 use Rattle.image.specs.declared.slot.Id.{Id}
@@ -358,7 +357,7 @@ module _ (g : Geometry) (cylinder drive : ℕ) (transfer : Transfer) (aim : Aim)
   OnThen (Works work) f t = OnWork work f t
 
   abbrev pub OnStep : Step → Taken → Type 0
-  OnStep o t = (o.effect ≡ Nothing) × OnThen o.then o.fifo t
+  OnStep o t = (o.effect ≡ None) × OnThen o.then o.fifo t
 
   -- 01 Result: an end that is no Next
   pub fails_over : (site : Site) (task : Task) (verdict : Verdict) (st1 : ℕ) (t : Taken) → Handing t
@@ -618,7 +617,7 @@ module _ (g : Geometry) (cylinder drive : ℕ) (transfer : Transfer) (aim : Aim)
 
     next_step : (sector : Sector) (o : Step) → Sees now task.other sector → sector.broken ≡ false
         → sector.other ≡ false → (transfer.sk ≡ false → task.other ≡ true → ⊥) → f.count ≡ 0 → task.late ≡ false
-        → Flowing task.late b.num b.n P f t → NextRule f.tc sector.slot site task f Nothing o
+        → Flowing task.late b.num b.n P f t → NextRule f.tc sector.slot site task f None o
         → OnStep o t
     next_step sector o s whole own sh z nl fl (stops verdict v e) =
         rw e (refl, next_over verdict z nl fl (good_now sector s whole own) sh v)
@@ -683,7 +682,7 @@ module _ (g : Geometry) (cylinder drive : ℕ) (transfer : Transfer) (aim : Aim)
 
     skip_step : (slot : ℕ) (o : Step) → transfer.sk ≡ true → IsOther g cylinder transfer aim img b.m
         → Has g cylinder now.side slot → FitsFifo efifo f → Flowing task.late b.num b.n 0 f t
-        → NextRule f.tc slot site (with_other true task) f Nothing o → OnStep o t
+        → NextRule f.tc slot site (with_other true task) f None o → OnStep o t
     skip_step slot o k other has fit fl (stops verdict v e) = rw e (refl, skip_over verdict k other fit fl v)
     skip_step slot o k other has fit fl (turns u r x d e) =
         rw e (
@@ -851,7 +850,7 @@ module _ (g : Geometry) (cylinder drive : ℕ) (transfer : Transfer) (aim : Aim)
         (rw p at b.flow) n
 
 module _ (g : Geometry) (cylinder : ℕ) (order : Order) (transfer : Transfer) (id : Id) (img : List ℕ)
-    (disk : disk_in img ≡ Present g) (moves_it : order.job ≡ Move transfer id) (rd : transfer.pass ≡ Read)
+    (disk : disk_in img ≡ Some g) (moves_it : order.job ≡ Move transfer id) (rd : transfer.pass ≡ Read)
     (hd : order.drive < 4) where
   abbrev drive : ℕ
   drive = order.drive
@@ -931,7 +930,7 @@ module _ (g : Geometry) (cylinder : ℕ) (order : Order) (transfer : Transfer) (
         },
       )
 
-  first_present : Gives (begin_of order (Present g) cylinder emptied) untaken
+  first_present : Gives (begin_of order (Some g) cylinder emptied) untaken
   unfolding begin_of entered_of gate_of start_job given_id end_of
   first_present = rw moves_it
       (by_test (not (has_track g cylinder order.side))
@@ -943,7 +942,7 @@ module _ (g : Geometry) (cylinder : ℕ) (order : Order) (transfer : Transfer) (
       (λ u. (refl, shut_over 0x02 0x00 (λ e. omega arith)))
       (λ u. first_busy (not-false (has_track g cylinder order.side) t))))
 
-  first_absent : Gives (begin_of order Absent cylinder emptied) untaken
+  first_absent : Gives (begin_of order None cylinder emptied) untaken
   unfolding begin_of entered_of gate_of given_id end_of
   first_absent = rw moves_it (refl, shut_over 0x01 0x00 (λ e. omega arith))
 
@@ -1011,7 +1010,7 @@ module _ (g : Geometry) (cylinder : ℕ) (order : Order) (transfer : Transfer) (
   settled_run (Works (Moving site task stage)) f c t u k = at_it site task stage refl u k
   settled_run (Works (Formatting site plan form)) f c t u k = absurd k
 
-  stored_same : (a b : ℕ) (effect : Effect) → effect ≡ Nothing → stored_as a b effect img ≡ img
+  stored_same : (a b : ℕ) (effect : Effect) → effect ≡ None → stored_as a b effect img ≡ img
   stored_same a b effect e =
       by_test (eqb a b) (λ (l : List ℕ). l ≡ img) _ _ (λ t. rw e) (λ t. refl)
 

@@ -1,6 +1,7 @@
 -- Served in time (specs/InTime), over every list of calls: what the FIFO holds while the request is off, tick by tick
 -- and call by call, and why no transfer then ends with ST1's bit 10.
 -- Assumes nothing.
+use Rattle.std.specs.Prelude.{None, Some}
 use Prim.Native.Nat.{ℕ, ◌+◌, ◌<◌}
 use native.Mathlib.Omega.{arith}
 use mathlib.Core.Bool.{Bool, true, false, ◌&&◌, not, true≢false, false≢true}
@@ -9,9 +10,8 @@ use mathlib.Core.Logic.{◌⊎◌, inl, inr}
 use mathlib.Core.Path.{◌≡◌, refl, sym, ap, ◌∙◌}
 use lib.Dec.{eqb}
 use Rattle.image.proofs.TestLaws.{by_test}
-use Rattle.image.specs.declared.disk.Disk.{Disk}
-use Rattle.image.specs.declared.disk.Disk.TheVariants.{Absent, Present}
-use Rattle.image.specs.declared.lent.Effect.{Effect}
+use Rattle.image.specs.Disk.{Disk}
+use Rattle.image.specs.Lent.{Effect}
 use Rattle.image.specs.declared.slot.Id.{Id}
 use Rattle.chip.specs.declared.fifo.Fifo.{Fifo}
 use Rattle.chip.specs.Fifo.{emptied, taken_of, given_of}
@@ -247,8 +247,8 @@ module _ (efifo : Bool) (fifothr : ℕ) where
   first_gives : (order : Order) (transfer : Transfer) (id : Id) → order.job ≡ Move transfer id → (disk : Disk)
       (head : ℕ) → Gives efifo fifothr (begin_of order disk head emptied)
   unfolding begin_of entered_of gate_of start_job end_of
-  first_gives order transfer id j Absent head = refl
-  first_gives order transfer id j (Present g) head = rw j
+  first_gives order transfer id j None head = refl
+  first_gives order transfer id j (Some g) head = rw j
       (by_test (not (has_track g head order.side))
       (λ x. Gives efifo fifothr (entered_of x (Move transfer id) order.drive order.side head emptied)) _ _
       (λ t. refl)

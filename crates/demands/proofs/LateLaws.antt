@@ -1,6 +1,7 @@
 -- A byte that was late is told (specs/InTime): from the tick that finds it so, the sector in hand is run to its end,
 -- and every end from there on has ST1's bit 10.
 -- Assumes nothing.
+use Rattle.std.specs.Prelude.{None, Some}
 use Prim.Native.Nat.{ℕ}
 use native.Mathlib.Omega.{arith}
 use mathlib.Core.Bool.{Bool, true, false, not, ◌&&◌, true≢false, false≢true}
@@ -9,9 +10,8 @@ use mathlib.Core.Logic.{inl, inr}
 use mathlib.Core.Path.{◌≡◌, refl, sym, ap, ◌∙◌}
 use borrow.Author.Tests.{eq-eqb, ne_eqb, le-leb, lt-leb}
 use Rattle.image.proofs.TestLaws.{by_test}
-use Rattle.image.specs.declared.disk.Disk.{Disk}
-use Rattle.image.specs.declared.disk.Disk.TheVariants.{Absent, Present}
-use Rattle.image.specs.declared.lent.Effect.{Effect}
+use Rattle.image.specs.Disk.{Disk}
+use Rattle.image.specs.Lent.{Effect}
 use Rattle.image.specs.declared.slot.Id.{Id}
 use Rattle.chip.specs.declared.fifo.Fifo.{Fifo}
 use Rattle.sectors.specs.declared.order.Job.TheVariants.{Move}
@@ -190,8 +190,8 @@ moving_gives Write transfer id site fifo = λ z. absurd (false≢true z)
 first_gives : (order : Order) (transfer : Transfer) (id : Id) → order.job ≡ Move transfer id → (disk : Disk) (head : ℕ)
     (fifo : Fifo) → Gives false (begin_of order disk head fifo)
 unfolding begin_of entered_of gate_of start_job end_of
-first_gives order transfer id j Absent head fifo = λ z. absurd (false≢true z)
-first_gives order transfer id j (Present g) head fifo = rw j
+first_gives order transfer id j None head fifo = λ z. absurd (false≢true z)
+first_gives order transfer id j (Some g) head fifo = rw j
     (by_test (not (has_track g head order.side))
     (λ x. Gives false (entered_of x (Move transfer id) order.drive order.side head fifo)) _ _
     (λ t z. absurd (false≢true z))

@@ -1,6 +1,8 @@
 -- What a write command leaves of an image (specs/PowerCut, `LeftBy`), store by store: a sector begun, one byte more of
 -- it, its good mark; and a byte from the host. No machine here.
 -- Assumes nothing.
+use Rattle.std.specs.Prelude.{None, Some}
+use Rattle.image.specs.Lent.{put_at}
 use Prim.Native.Nat.{ℕ, ◌+◌, ◌*◌, ◌≤◌, ◌<◌}
 use native.Mathlib.Omega.{arith}
 use mathlib.Core.Bool.{Bool, true, false}
@@ -14,7 +16,6 @@ use borrow.Author.Tests.{eqb-true, eqb-false, eq-eqb, ne_eqb}
 use Rattle.image.proofs.LayoutLaws.{slot_inside, slots_share_nothing}
 use Rattle.image.proofs.TestLaws.{le_or_lt, by_test}
 use Rattle.image.specs.declared.layout.Geometry.{Geometry}
-use Rattle.image.specs.declared.lent.Effect.TheVariants.{Store, Nothing}
 use Rattle.image.specs.declared.mark.Mark.TheVariants.{Data}
 use Rattle.image.specs.declared.slot.Id.{Id}
 use Rattle.image.specs.Disk.{Fits}
@@ -26,7 +27,7 @@ use Rattle.sectors.specs.declared.order.Transfer.{Transfer}
 use Rattle.demands.specs.History.{Sector, Begun, no_one, some_of, History, no_history, noted_store, handed, stored_by}
 use Rattle.demands.specs.PowerCut.{Aim, aim_no, Followed, Counts, Stands, HalfDone, AllFinished, BegunHalf, begun_bytes, SparesAll, LeftBy, passing, stored_count, sector_count, LastShort}
 use Rattle.demands.proofs.AddressLaws.{Behind, behind_differs, AllBehind, aim_byte}
-use Rattle.image.specs.declared.lent.Effect.{Effect}
+use Rattle.image.specs.Lent.{Effect}
 
 -- place p is one of the sector's whose mark stands at `at`
 pub record Inside (g : Geometry) (at p : ℕ) : Type 0 where
@@ -187,7 +188,7 @@ module _ (g : Geometry) (cylinder : ℕ) (transfer : Transfer) (aim : Aim) (old 
       go (inl a) = omega arith
       go (inr a) = absurd (omega (arith, fed (k + 1) a))
 
-  -- Nothing done yet.
+  -- None done yet.
   pub left_fresh : Left old no_history
   left_fresh = record {
     finished = tt;
@@ -246,7 +247,7 @@ module _ (g : Geometry) (cylinder : ℕ) (transfer : Transfer) (aim : Aim) (old 
       abbrev broken : ℕ
       broken = byte_of (Data transfer.deleted true)
 
-      pub left_begins : Left (set img at broken) (noted_store (Store at broken) h)
+      pub left_begins : Left (set img at broken) (noted_store (Some (put_at at broken)) h)
       left_begins = let inside = stands_inside g cylinder old fits (No now) at st in
           let here : (q : ℕ) → at ≤ q → q < at + 5 + size_of g.n → Inside g at q = λ q a b. record {
             from = a;
@@ -298,7 +299,7 @@ module _ (g : Geometry) (cylinder : ℕ) (transfer : Transfer) (aim : Aim) (old 
       -- one byte more
       pub left_puts : (p v : ℕ) → length bytes < size_of g.n → p ≡ at + 5 + length bytes
           → v ≡ get_or h.host (now * size_of g.n + length bytes) 0
-          → Left (set img p v) (noted_store (Store p v) h)
+          → Left (set img p v) (noted_store (Some (put_at p v)) h)
       left_puts p v l e f =
           let (st, hd) = half in
           let inside = stands_inside g cylinder old fits (No now) at st in
@@ -351,7 +352,7 @@ module _ (g : Geometry) (cylinder : ℕ) (transfer : Transfer) (aim : Aim) (old 
       abbrev good : ℕ
       good = byte_of (Data transfer.deleted false)
 
-      pub left_finishes : length bytes ≡ size_of g.n → Left (set img at good) (noted_store (Store at good) h)
+      pub left_finishes : length bytes ≡ size_of g.n → Left (set img at good) (noted_store (Some (put_at at good)) h)
       left_finishes z =
           let (st, hd) = half in
           let inside = stands_inside g cylinder old fits (No now) at st in
@@ -387,20 +388,20 @@ module _ (g : Geometry) (cylinder : ℕ) (transfer : Transfer) (aim : Aim) (old 
 
 -- a store leaves the host's bytes
 pub noted_host : (effect : Effect) (h : History) → (noted_store effect h).host ≡ h.host
-noted_host Nothing h = refl
-noted_host (Store at byte) h = go h.begun
+noted_host None h = refl
+noted_host (Some put) h = go h.begun
   where
-    go : (b : Begun) → (stored_by at byte b h).host ≡ h.host
+    go : (b : Begun) → (stored_by put.at put.byte b h).host ≡ h.host
     go no_one = refl
     go (some_of mark bytes) =
-        by_test (eqb at mark) (λ (x : History). x.host ≡ h.host) _ _ (λ t. refl) (λ t. refl)
+        by_test (eqb put.at mark) (λ (x : History). x.host ≡ h.host) _ _ (λ t. refl) (λ t. refl)
 
 -- and whether TC came
 pub noted_told : (effect : Effect) (h : History) → (noted_store effect h).told ≡ h.told
-noted_told Nothing h = refl
-noted_told (Store at byte) h = go h.begun
+noted_told None h = refl
+noted_told (Some put) h = go h.begun
   where
-    go : (b : Begun) → (stored_by at byte b h).told ≡ h.told
+    go : (b : Begun) → (stored_by put.at put.byte b h).told ≡ h.told
     go no_one = refl
     go (some_of mark bytes) =
-        by_test (eqb at mark) (λ (x : History). x.told ≡ h.told) _ _ (λ t. refl) (λ t. refl)
+        by_test (eqb put.at mark) (λ (x : History). x.told ≡ h.told) _ _ (λ t. refl) (λ t. refl)

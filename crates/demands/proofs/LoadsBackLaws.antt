@@ -1,6 +1,7 @@
 -- What a write acknowledged comes back (specs/LoadsBack): the read succeeds on the image that holds the sectors, and
 -- by the round trip its bytes are the host's.
 -- Assumes nothing.
+use Rattle.std.specs.Prelude.{Some}
 use Prim.Native.Nat.{ℕ, zero, suc, ◌+◌, ◌-◌, ◌*◌, ◌<◌, ◌≤◌}
 use native.Mathlib.Omega.{arith}
 use mathlib.Core.Bool.{Bool, true, false, false≢true}
@@ -8,7 +9,6 @@ use mathlib.Core.List.{List, [], ◌∷◌, ◌++◌}
 use mathlib.Core.Logic.{inl, inr}
 use mathlib.Core.Path.{◌≡◌, refl, sym, ap, ◌∙◌, subst}
 use lib.ListN.{length, get_or}
-use Rattle.image.specs.declared.disk.Disk.TheVariants.{Present}
 use Rattle.image.specs.declared.layout.Geometry.{Geometry}
 use Rattle.image.specs.declared.mark.Mark.TheVariants.{Data}
 use Rattle.image.specs.Disk.{disk_in}
@@ -219,7 +219,7 @@ module _ (w : Written Quiet) (done : Succeeded w) (some : 0 < length (done_by w)
           bytes = back.whole (omega (arith, many, few));
         }
       where
-        disk : disk_in later ≡ Present g'
+        disk : disk_in later ≡ Some g'
         disk = fits_present later g' sound.fits
 
         handed : HandedBy c (run_calls p.part c) order transfer w.id g' later

@@ -1,6 +1,7 @@
 -- A read or a write whose first sector is not on the track ends as the search says (specs/NotFound), over every list of
 -- calls: in the second pass every slot was looked at, and what was noted of them is all there is.
 -- Assumes nothing.
+use Rattle.std.specs.Prelude.{None, Some}
 use Prim.Native.Nat.{ℕ, zero, suc, ◌+◌, ◌%◌, ◌≤◌, ◌<◌}
 use native.Mathlib.Omega.{arith}
 use mathlib.Core.Bool.{Bool, true, false, ◌&&◌, ◌||◌, not, cond, true≢false, false≢true}
@@ -11,9 +12,7 @@ use lib.Dec.{eqb, leb}
 use borrow.Author.Tests.{lt-ltb, le-ltb, le-leb, lt-leb, leb-true}
 use Rattle.chip.specs.declared.fifo.Fifo.{Fifo}
 use Rattle.chip.specs.Fifo.{opened_of}
-use Rattle.image.specs.declared.disk.Disk.TheVariants.{Present}
 use Rattle.image.specs.declared.layout.Geometry.{Geometry}
-use Rattle.image.specs.declared.lent.Effect.TheVariants.{Nothing}
 use Rattle.image.specs.declared.mark.Mark.{Mark}
 use Rattle.image.specs.declared.mark.Mark.TheVariants.{NoId, Data, NoData}
 use Rattle.image.specs.declared.slot.Id.{Id}
@@ -154,7 +153,7 @@ looked_is NoId id look site task fifo h = refl
 looked_is (Data deleted broken) id look site task fifo h = rw h refl
 looked_is NoData id look site task fifo h = rw h refl
 
-module _ (img : List ℕ) (g : Geometry) (disk : disk_in img ≡ Present g) (order : Order) (low : order.drive < 4)
+module _ (img : List ℕ) (g : Geometry) (disk : disk_in img ≡ Some g) (order : Order) (low : order.drive < 4)
     (cylinder : ℕ) (transfer : Transfer) (id : Id) (job : order.job ≡ Move transfer id)
     (missing : Missing g img cylinder order.side transfer id) where
   abbrev site : Site
@@ -253,9 +252,9 @@ module _ (img : List ℕ) (g : Geometry) (disk : disk_in img ≡ Present g) (ord
   ff_all = some ff g.slots
 
   data Leads (o : Step) : Type 0 where
-    goes : (look : Search) (fifo : Fifo) → On look → o ≡ moves_of (Searching look) site task fifo Nothing → Leads o
+    goes : (look : Search) (fifo : Fifo) → On look → o ≡ moves_of (Searching look) site task fifo None → Leads o
     ends : o ≡ end_of false order.drive order.side (cond met_all 0x04 0x01)
-        (cond below_all 0x10 0x00 + cond ff_all 0x02 0x00) id Nothing → Leads o
+        (cond below_all 0x10 0x00 + cond ff_all 0x02 0x00) id None → Leads o
 
   below_id : (k : ℕ) → is_id k ≡ false → below k ≡ false
   below_id k e = rw e
@@ -271,7 +270,7 @@ module _ (img : List ℕ) (g : Geometry) (disk : disk_in img ≡ Present g) (ord
       go : (t : Bool) → met_all ≡ t → Leads (finding.not_found look site task)
       go true e =
           ends (simp (f.met_is, e, f.below_is, f.ff_is)
-          (ap (λ (x : ℕ). end_of false order.drive order.side 0x04 x id Nothing) (omega arith)))
+          (ap (λ (x : ℕ). end_of false order.drive order.side 0x04 x id None) (omega arith)))
       go false e =
           ends (simp (
             f.met_is,
@@ -351,7 +350,7 @@ module _ (img : List ℕ) (g : Geometry) (disk : disk_in img ≡ Present g) (ord
     works : (look : Search) → c.phase ≡ Working (Moving site task (Searching look)) → On look → Way c
     over : Said c → Way c
 
-  seen : (dor : ℕ) → motor_in dor order.drive ≡ true → seen_of dor order.drive img ≡ Present g
+  seen : (dor : ℕ) → motor_in dor order.drive ≡ true → seen_of dor order.drive img ≡ Some g
   unfolding seen_of
   seen dor m = rw (m, disk)
 
@@ -368,12 +367,12 @@ module _ (img : List ℕ) (g : Geometry) (disk : disk_in img ≡ Present g) (ord
   starts_at Read fifo = goes (fresh_at 0) fifo fresh_on refl
   starts_at Write fifo = goes (fresh_at 0) (opened_of fifo) fresh_on refl
 
-  begun : (fifo : Fifo) → begin_of order (Present g) cylinder fifo ≡ moving_of transfer.pass transfer id site fifo
+  begun : (fifo : Fifo) → begin_of order (Some g) cylinder fifo ≡ moving_of transfer.pass transfer id site fifo
   unfolding begin_of gate_of entered_of start_job has_track
   begun fifo = go transfer.pass refl
     where
       go : (pass : Pass) → transfer.pass ≡ pass
-          → begin_of order (Present g) cylinder fifo ≡ moving_of transfer.pass transfer id site fifo
+          → begin_of order (Some g) cylinder fifo ≡ moving_of transfer.pass transfer id site fifo
       go Read e =
           simp (
             job,
@@ -391,7 +390,7 @@ module _ (img : List ℕ) (g : Geometry) (disk : disk_in img ≡ Present g) (ord
           )
 
   gone_on : (look : Search) (fifo : Fifo) (efifo : Bool) (fifothr : ℕ)
-      → go_on_of (Moving site task (Searching look)) (Present g) cylinder img fifo efifo fifothr
+      → go_on_of (Moving site task (Searching look)) (Some g) cylinder img fifo efifo fifothr
       ≡ search_of look site task cylinder img fifo
   unfolding go_on_of stays_of work_step stage_of
   gone_on look fifo efifo fifothr = simp (same_geometry g)
@@ -401,7 +400,7 @@ module _ (img : List ℕ) (g : Geometry) (disk : disk_in img ≡ Present g) (ord
   landed c o (goes look fifo on e) = rw e (works look refl on)
   landed c o (ends e) = rw e (over (record { waits = refl; st0 = refl; st1 = refl; st2 = refl; address = refl }))
 
-  no_effect : (o : Step) → Leads o → o.effect ≡ Nothing
+  no_effect : (o : Step) → Leads o → o.effect ≡ None
   unfolding end_of
   no_effect o (goes look fifo on e) = rw e
   no_effect o (ends e) = rw e
@@ -412,14 +411,14 @@ module _ (img : List ℕ) (g : Geometry) (disk : disk_in img ≡ Present g) (ord
   over_so c (over s) a = s
 
   -- where a tick's step leads
-  led : (c : Controller) (o : Step) → Leads o → (o.effect ≡ Nothing) × Way (settled_of o.then o.fifo c)
+  led : (c : Controller) (o : Step) → Leads o → (o.effect ≡ None) × Way (settled_of o.then o.fifo c)
   led c o on = (no_effect o on, landed c o on)
 
   step_of : (a b : List ℕ) (c : Controller) → Quiet c → at_work c.phase ≡ true
       → motor_in c.registers.dor order.drive ≡ true → pick_of order.drive a b ≡ img
       → (drive_at (order.drive % 4) c.drives).head ≡ cylinder → Unit {0} → Way c
       → (o : Step) × (ruled_of a b c ≡ decided_of order.drive o c)
-      × ((o.effect ≡ Nothing) × Way (settled_of o.then o.fifo c))
+      × ((o.effect ≡ None) × Way (settled_of o.then o.fifo c))
   step_of a b c q w motor lent heads t (starts p) = (
     moving_of transfer.pass transfer id site c.fifo,
     tick_starts a b c order q p ∙ rw (lent, seen _ motor, heads, begun c.fifo),

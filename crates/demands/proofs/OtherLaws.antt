@@ -1,5 +1,6 @@
 -- Demand 3, the other image (specs/PowerCut): no call of a command changes the image of a drive that is not its own.
 -- Assumes nothing.
+use Rattle.std.specs.Prelude.{None}
 use Prim.Native.Nat.{ℕ}
 use mathlib.Core.Bool.{Bool, true, false, false≢true}
 use mathlib.Core.List.{List, [], ◌∷◌}
@@ -7,7 +8,6 @@ use mathlib.Core.Path.{◌≡◌, refl, sym, ap, ◌∙◌, subst}
 use lib.Dec.{eqb}
 use borrow.Author.Tests.{ne_eqb}
 use Rattle.image.proofs.TestLaws.{by_test}
-use Rattle.image.specs.declared.lent.Effect.TheVariants.{Nothing}
 use Rattle.image.specs.Lent.{stored_as}
 use Rattle.chip.specs.declared.fifo.Fifo.{Fifo}
 use Rattle.sectors.specs.declared.work.Step.{Step}
@@ -90,7 +90,7 @@ module _ (drive : ℕ) where
       go (Answering loud) e = absurd (false≢true (rw e at w))
 
   -- no command at work: a tick stores nothing
-  still : (p : Phase) (a b : List ℕ) (c : Controller) → at_work p ≡ false → (decide_in p a b c).effect ≡ Nothing
+  still : (p : Phase) (a b : List ℕ) (c : Controller) → at_work p ≡ false → (decide_in p a b c).effect ≡ None
   unfolding decide_in still_of
   still Idle a b c e = refl
   still (Gathering entry) a b c e = refl
@@ -99,16 +99,16 @@ module _ (drive : ℕ) where
   still (Sensing unit) a b c e = refl
   still (Answering loud) a b c e = refl
 
-  pub rests : (a b : List ℕ) (c : Controller) → at_work c.phase ≡ false → (ruled_of a b c).effect ≡ Nothing
+  pub rests : (a b : List ℕ) (c : Controller) → at_work c.phase ≡ false → (ruled_of a b c).effect ≡ None
   unfolding ruled_of decide_of still_of
   rests a b c e =
-      by_test (valid_of c) (λ (x : Decision). x.effect ≡ Nothing) _ _
+      by_test (valid_of c) (λ (x : Decision). x.effect ≡ None) _ _
       (λ v.
-      by_test (held_in c.registers.dor) (λ (x : Decision). x.effect ≡ Nothing) _ _ (λ t. refl)
+      by_test (held_in c.registers.dor) (λ (x : Decision). x.effect ≡ None) _ _ (λ t. refl)
       (λ t. still c.phase a b (stepped_of a b c) e))
       (λ v. refl)
 
-  kept_same : (k d : ℕ) (img : List ℕ) → stored_as d k Nothing img ≡ img
+  kept_same : (k d : ℕ) (img : List ℕ) → stored_as d k None img ≡ img
   kept_same k d img = by_test (eqb d k) (λ (l : List ℕ). l ≡ img) _ _ (λ t. refl) (λ t. refl)
 
   pub other_tick : (k : ℕ) → (k ≡ drive → ⊥) → (a b : List ℕ) (c : Controller) (img : List ℕ) → Quiet c

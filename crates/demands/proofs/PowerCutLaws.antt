@@ -1,5 +1,6 @@
 -- Demand 3, the power cut (specs/PowerCut): over every list of a write command's calls, what is left of the image.
 -- Assumes nothing.
+use Rattle.std.specs.Prelude.{None, Some}
 use Prim.Native.Nat.{ℕ, ◌+◌, ◌*◌, ◌%◌, ◌<◌}
 use native.Mathlib.Nat.{mod-eq_of_lt}
 use native.Mathlib.Omega.{arith}
@@ -11,8 +12,7 @@ use lib.Dec.{ltb}
 use borrow.Author.Tests.{ltb-true, eq-eqb, not-false}
 use Rattle.image.proofs.DiskLaws.{present_fits}
 use Rattle.image.proofs.TestLaws.{by_test, both}
-use Rattle.image.specs.declared.disk.Disk.{Disk}
-use Rattle.image.specs.declared.disk.Disk.TheVariants.{Absent, Present}
+use Rattle.image.specs.Disk.{Disk}
 use Rattle.image.specs.declared.layout.Geometry.{Geometry}
 use Rattle.image.specs.declared.slot.Id.{Id}
 use Rattle.image.specs.Disk.{Fits, disk_in}
@@ -87,7 +87,7 @@ pub idle≢answering : (loud : Bool) → Idle ≡ Answering loud → ⊥
 idle≢answering loud e = let z : ◌≡◌ {A = ℕ} 0 1 = cc in omega arith
 
 module _ (g : Geometry) (cylinder : ℕ) (order : Order) (transfer : Transfer) (id : Id) (old : List ℕ)
-    (disk : disk_in old ≡ Present g) (moves : order.job ≡ Move transfer id) (wr : transfer.pass ≡ Write)
+    (disk : disk_in old ≡ Some g) (moves : order.job ≡ Move transfer id) (wr : transfer.pass ≡ Write)
     (hr : id.r < 256) (he : transfer.eot < 256) (hd : order.drive < 4) where
   abbrev drive : ℕ
   drive = order.drive
@@ -169,7 +169,7 @@ module _ (g : Geometry) (cylinder : ℕ) (order : Order) (transfer : Transfer) (
           sofar = done_fresh;
         })
 
-    first_present : Gives efifo (begin_of order (Present g) cylinder emptied) old no_history
+    first_present : Gives efifo (begin_of order (Some g) cylinder emptied) old no_history
     unfolding begin_of entered_of gate_of start_job given_id end_of
     first_present = rw moves
         (by_test (not (has_track g cylinder order.side))
@@ -181,7 +181,7 @@ module _ (g : Geometry) (cylinder : ℕ) (order : Order) (transfer : Transfer) (
         (λ u. (done_fresh, shut_says 0x02 0x00 (λ e. omega arith)))
         (λ u. first_busy (not-false (has_track g cylinder order.side) t))))
 
-    first_absent : Gives efifo (begin_of order Absent cylinder emptied) old no_history
+    first_absent : Gives efifo (begin_of order None cylinder emptied) old no_history
     unfolding begin_of entered_of gate_of given_id end_of
     first_absent = rw moves (done_fresh, shut_says 0x01 0x00 (λ e. omega arith))
 
@@ -368,7 +368,7 @@ module _ (g : Geometry) (cylinder : ℕ) (order : Order) (transfer : Transfer) (
 -- after any of a write command's calls
 module _ (c : Controller) (quiet : Quiet c) (order : Order) (transfer : Transfer) (id : Id)
     (w : Writes c order transfer id)
-    (old : List ℕ) (g : Geometry) (disk : disk_in old ≡ Present g) (calls : List Call) (its : Its calls c)
+    (old : List ℕ) (g : Geometry) (disk : disk_in old ≡ Some g) (calls : List Call) (its : Its calls c)
     (alone : Alone order.drive old calls c) where
   pub proper : (order.drive < 4) × (order.side < 2) × (id.r < 256) × (transfer.eot < 256)
   proper =

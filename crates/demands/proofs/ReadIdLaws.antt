@@ -1,5 +1,6 @@
 -- A Read ID gives the track's first ID, or ST1 01 where there is none (specs/ReadIdGives), over every list of calls.
 -- Assumes nothing.
+use Rattle.std.specs.Prelude.{None, Some}
 use Prim.Native.Nat.{ℕ, ◌+◌, ◌%◌, ◌≤◌, ◌<◌}
 use native.Mathlib.Omega.{arith}
 use mathlib.Core.Bool.{Bool, true, false, true≢false, false≢true}
@@ -8,9 +9,7 @@ use mathlib.Core.Logic.{◌⊎◌, inl, inr}
 use mathlib.Core.Path.{◌≡◌, refl, sym, ap, ◌∙◌}
 use borrow.Author.Tests.{lt-ltb, le-ltb, le-leb, lt-leb}
 use Rattle.chip.specs.declared.fifo.Fifo.{Fifo}
-use Rattle.image.specs.declared.disk.Disk.TheVariants.{Present}
 use Rattle.image.specs.declared.layout.Geometry.{Geometry}
-use Rattle.image.specs.declared.lent.Effect.TheVariants.{Nothing}
 use Rattle.image.specs.declared.mark.Mark.{Mark}
 use Rattle.image.specs.declared.mark.Mark.TheVariants.{NoId, Data, NoData}
 use Rattle.image.specs.declared.slot.Id.{Id}
@@ -62,7 +61,7 @@ unmarked NoId h = refl
 unmarked (Data deleted broken) h = absurd (h refl)
 unmarked NoData h = absurd (h refl)
 
-module _ (img : List ℕ) (g : Geometry) (disk : disk_in img ≡ Present g) (order : Order) (low : order.drive < 4)
+module _ (img : List ℕ) (g : Geometry) (disk : disk_in img ≡ Some g) (order : Order) (low : order.drive < 4)
     (cylinder : ℕ) (job : order.job ≡ Identify) where
   abbrev site : Site
   site = site_at order.drive order.side g
@@ -105,8 +104,8 @@ module _ (img : List ℕ) (g : Geometry) (disk : disk_in img ≡ Present g) (ord
 
   data Leads (plan : Plan) (o : Step) : Type 0 where
     goes : (slot passes : ℕ) (fifo : Fifo) → On plan slot passes
-        → o ≡ goes_of (Identifying site slot passes) fifo Nothing → Leads plan o
-    ends : o ≡ end_of (normal_by plan) order.drive order.side (st1_by plan) 0x00 (id_by plan) Nothing → Leads plan o
+        → o ≡ goes_of (Identifying site slot passes) fifo None → Leads plan o
+    ends : o ≡ end_of (normal_by plan) order.drive order.side (st1_by plan) 0x00 (id_by plan) None → Leads plan o
 
   -- a look at a slot without an ID
   unlike : (slot : ℕ) → (Counts (mark_at slot) → ⊥) → mark_of (slot_of img site cylinder slot).mark ≡ NoId
@@ -130,7 +129,7 @@ module _ (img : List ℕ) (g : Geometry) (disk : disk_in img ≡ Present g) (ord
       (simp (le-leb g.slots (slot + 1) l, lt-leb 1 passes m, le-ltb (slot + 1) g.slots l))
 
   here_is : (m : Mark) (id : Id) (slot passes : ℕ) (fifo : Fifo) → marked m ≡ true
-      → identified_of m id slot passes site fifo ≡ end_of true order.drive order.side 0x00 0x00 id Nothing
+      → identified_of m id slot passes site fifo ≡ end_of true order.drive order.side 0x00 0x00 id None
   unfolding identified_of id_here
   here_is NoId id slot passes fifo h = absurd (false≢true h)
   here_is (Data deleted broken) id slot passes fifo h = refl
@@ -170,11 +169,11 @@ module _ (img : List ℕ) (g : Geometry) (disk : disk_in img ≡ Present g) (ord
       works : (slot passes : ℕ) → c.phase ≡ Working (Identifying site slot passes) → On plan slot passes → Way c
       over : Said c → Way c
 
-    seen : (dor : ℕ) → motor_in dor order.drive ≡ true → seen_of dor order.drive img ≡ Present g
+    seen : (dor : ℕ) → motor_in dor order.drive ≡ true → seen_of dor order.drive img ≡ Some g
     unfolding seen_of
     seen dor m = rw (m, disk)
 
-    begun : (fifo : Fifo) → begin_of order (Present g) cylinder fifo ≡ goes_of (Identifying site 0 0) fifo Nothing
+    begun : (fifo : Fifo) → begin_of order (Some g) cylinder fifo ≡ goes_of (Identifying site 0 0) fifo None
     unfolding begin_of gate_of entered_of start_job has_track
     begun fifo =
         simp (
@@ -184,7 +183,7 @@ module _ (img : List ℕ) (g : Geometry) (disk : disk_in img ≡ Present g) (ord
         )
 
     gone_on : (slot passes : ℕ) (fifo : Fifo) (efifo : Bool) (fifothr : ℕ)
-        → go_on_of (Identifying site slot passes) (Present g) cylinder img fifo efifo fifothr
+        → go_on_of (Identifying site slot passes) (Some g) cylinder img fifo efifo fifothr
         ≡ identify_of slot passes site cylinder img fifo
     unfolding go_on_of stays_of work_step
     gone_on slot passes fifo efifo fifothr = simp (same_geometry g)
@@ -195,7 +194,7 @@ module _ (img : List ℕ) (g : Geometry) (disk : disk_in img ≡ Present g) (ord
     landed c o (ends e) =
         rw e (over (record { waits = refl; st0 = refl; st1_is = refl; st2 = refl; address = refl }))
 
-    no_effect : (o : Step) → Leads plan o → o.effect ≡ Nothing
+    no_effect : (o : Step) → Leads plan o → o.effect ≡ None
     unfolding end_of
     no_effect o (goes slot passes fifo on e) = rw e
     no_effect o (ends e) = rw e
@@ -206,16 +205,16 @@ module _ (img : List ℕ) (g : Geometry) (disk : disk_in img ≡ Present g) (ord
     over_so c (over s) a = s
 
     -- where a tick's step leads
-    led : (c : Controller) (o : Step) → Leads plan o → (o.effect ≡ Nothing) × Way (settled_of o.then o.fifo c)
+    led : (c : Controller) (o : Step) → Leads plan o → (o.effect ≡ None) × Way (settled_of o.then o.fifo c)
     led c o on = (no_effect o on, landed c o on)
 
     step_of : (a b : List ℕ) (c : Controller) → Quiet c → at_work c.phase ≡ true
         → motor_in c.registers.dor order.drive ≡ true → pick_of order.drive a b ≡ img
         → (drive_at (order.drive % 4) c.drives).head ≡ cylinder → Unit {0} → Way c
         → (o : Step) × (ruled_of a b c ≡ decided_of order.drive o c)
-        × ((o.effect ≡ Nothing) × Way (settled_of o.then o.fifo c))
+        × ((o.effect ≡ None) × Way (settled_of o.then o.fifo c))
     step_of a b c q w motor lent heads t (starts p) = (
-      goes_of (Identifying site 0 0) c.fifo Nothing,
+      goes_of (Identifying site 0 0) c.fifo None,
       tick_starts a b c order q p ∙ rw (lent, seen _ motor, heads, begun c.fifo),
       led c _ (goes 0 0 c.fifo (on_first plan) refl),
     )

@@ -1,6 +1,7 @@
 -- There is a host that serves a read promptly and gives TC with byte L (specs/ReadSucceeds): before each tick it takes
 -- what is asked for.
 -- Assumes nothing.
+use Rattle.std.specs.Prelude.{Some}
 use Prim.Native.Nat.{ℕ, zero, suc, ◌+◌, ◌≤◌, ◌<◌}
 use native.Mathlib.Omega.{arith}
 use mathlib.Core.Bool.{Bool, true, false, ◌||◌, true≢false, false≢true}
@@ -10,7 +11,6 @@ use mathlib.Core.Path.{◌≡◌, refl, sym, ap, ◌∙◌, subst}
 use lib.Dec.{eqb}
 use lib.ListN.{length, length-append}
 use borrow.Author.Tests.{eqb-true, eq-eqb}
-use Rattle.image.specs.declared.disk.Disk.TheVariants.{Present}
 use Rattle.image.specs.declared.layout.Geometry.{Geometry}
 use Rattle.image.specs.declared.slot.Id.{Id}
 use Rattle.image.specs.Disk.{disk_in}
@@ -98,7 +98,7 @@ took_count true c m l = omega arith
 took_count false c m l = omega arith
 
 module _ (order : Order) (transfer : Transfer) (id : Id) (a b : List ℕ) (g : Geometry)
-    (disk : disk_in (pick_of order.drive a b) ≡ Present g) (job : order.job ≡ Move transfer id)
+    (disk : disk_in (pick_of order.drive a b) ≡ Some g) (job : order.job ≡ Move transfer id)
     (rd : transfer.pass ≡ Read) (low : order.drive < 4) (cylinder L : ℕ) where
   abbrev drive : ℕ
   drive = order.drive

@@ -1,6 +1,7 @@
 -- A read that is served promptly on a good disk ends with success (specs/ReadSucceeds), over every list of calls: each
 -- tick and each byte taken keeps the command on its course through the sectors 0 to `last`.
 -- Assumes nothing.
+use Rattle.std.specs.Prelude.{None, Some}
 use Prim.Native.Nat.{ℕ, suc, ◌+◌, ◌*◌, ◌%◌, ◌≤◌, ◌<◌}
 use native.Mathlib.Nat.{mod-eq_of_lt, mul-le-mul_right}
 use native.Mathlib.Omega.{arith}
@@ -10,9 +11,7 @@ use mathlib.Core.Logic.{◌⊎◌, inl, inr}
 use mathlib.Core.Path.{◌≡◌, refl, sym, ap, ◌∙◌, subst}
 use lib.ListN.{length, get_or}
 use borrow.Author.Tests.{eq-eqb, lt-ltb}
-use Rattle.image.specs.declared.disk.Disk.TheVariants.{Present}
 use Rattle.image.specs.declared.layout.Geometry.{Geometry}
-use Rattle.image.specs.declared.lent.Effect.TheVariants.{Nothing}
 use Rattle.image.specs.declared.mark.Mark.TheVariants.{Data}
 use Rattle.image.specs.declared.slot.Id.{Id}
 use Rattle.image.specs.Disk.{disk_in}
@@ -159,9 +158,9 @@ module _ (g : Geometry) (cylinder drive : ℕ) (transfer : Transfer) (aim : Aim)
 
   -- what a tick gives
   data Gives (t : Taken) (o : Step) : Type 0 where
-    goes : (n : ℕ) (stage : Stage) (f : Fifo) → Course n stage f t → o ≡ moves_of stage (site_no n) (task_no n) f Nothing
+    goes : (n : ℕ) (stage : Stage) (f : Fifo) → Course n stage f t → o ≡ moves_of stage (site_no n) (task_no n) f None
         → Gives t o
-    ends : (verdict : Verdict) → NextEnds normal (site_no last) (task_no last) verdict → o ≡ ends_with verdict Nothing
+    ends : (verdict : Verdict) → NextEnds normal (site_no last) (task_no last) verdict → o ≡ ends_with verdict None
         → Gives t o
 
   -- The sector number n on the disk.
@@ -275,7 +274,7 @@ module _ (g : Geometry) (cylinder drive : ℕ) (transfer : Transfer) (aim : Aim)
         → NextEnds normal (site_no last) (task_no last) verdict
     over_at verdict tc' q u v = rw (q, u) at v
 
-    next : (o : Step) → f.count ≡ 0 → Flowing n P f t → NextRule f.tc here (site_no n) (task_no n) f Nothing o
+    next : (o : Step) → f.count ≡ 0 → Flowing n P f t → NextRule f.tc here (site_no n) (task_no n) f None o
         → Gives t o
     next o z fl (stops verdict v e) = go fl
       where
@@ -427,10 +426,10 @@ module _ (g : Geometry) (cylinder : ℕ) (order : Order) (transfer : Transfer) (
   not_over : (c : Controller) {A : Type 0} → at_work c.phase ≡ true → Said c → A
   not_over c w s = absurd (false≢true (sym (ap at_work s.waits) ∙ w))
 
-  disk : disk_in img ≡ Present g
+  disk : disk_in img ≡ Some g
   disk = fits_present img g plan.sound.fits
 
-  seen : (dor : ℕ) → motor_in dor drive ≡ true → seen_of dor drive img ≡ Present g
+  seen : (dor : ℕ) → motor_in dor drive ≡ true → seen_of dor drive img ≡ Some g
   unfolding seen_of
   seen dor m = rw (m, disk)
 
@@ -439,7 +438,7 @@ module _ (g : Geometry) (cylinder : ℕ) (order : Order) (transfer : Transfer) (
   first_has = (plan.all.good 0 (omega arith)).stands.has
 
   begun : (f : Fifo)
-      → begin_of order (Present g) cylinder f ≡ moves_of (Searching (fresh_at 0)) (site_in 0) (task_in 0) f Nothing
+      → begin_of order (Some g) cylinder f ≡ moves_of (Searching (fresh_at 0)) (site_in 0) (task_in 0) f None
   unfolding begin_of gate_of entered_of start_job moving_of has_track
   begun f =
       simp (
@@ -460,7 +459,7 @@ module _ (g : Geometry) (cylinder : ℕ) (order : Order) (transfer : Transfer) (
 
   -- a later tick
   gone_on : (n : ℕ) (stage : Stage) (f : Fifo) (efifo : Bool) (fifothr : ℕ)
-      → go_on_of (Moving (site_in n) (task_in n) stage) (Present g) cylinder img f efifo fifothr
+      → go_on_of (Moving (site_in n) (task_in n) stage) (Some g) cylinder img f efifo fifothr
       ≡ stage_of stage (site_in n) (task_in n) cylinder img f efifo fifothr
   unfolding go_on_of stays_of work_step
   gone_on n stage f efifo fifothr = simp (same_geometry g)
@@ -472,7 +471,7 @@ module _ (g : Geometry) (cylinder : ℕ) (order : Order) (transfer : Transfer) (
   landed c t o (ends verdict v e) =
       rw e (over (record { waits = refl; st0 = v.st0; st1 = omega (arith, v.st1); st2 = v.st2; address = v.id }))
 
-  no_effect : (t : Taken) (o : Step) → Leads t o → o.effect ≡ Nothing
+  no_effect : (t : Taken) (o : Step) → Leads t o → o.effect ≡ None
   no_effect t o (goes n stage f w e) = rw e
   no_effect t o (ends verdict v e) = rw e
 
@@ -483,7 +482,7 @@ module _ (g : Geometry) (cylinder : ℕ) (order : Order) (transfer : Transfer) (
 
     first_step : c.phase ≡ Starting order
         → ruled_of a b c
-        ≡ decided_of drive (moves_of (Searching (fresh_at 0)) (site_in 0) (task_in 0) c.fifo Nothing) c
+        ≡ decided_of drive (moves_of (Searching (fresh_at 0)) (site_in 0) (task_in 0) c.fifo None) c
     first_step p = tick_starts a b c order f.quiet p ∙ rw (lent, seen _ motor, heads, begun c.fifo)
 
     later_step : (n : ℕ) (stage : Stage) → c.phase ≡ Working (Moving (site_in n) (task_in n) stage)

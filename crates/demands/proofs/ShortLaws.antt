@@ -1,5 +1,7 @@
 -- Once a byte of a write is missing none follows, and its sector is the last one (specs/ShortSave).
 -- Assumes nothing.
+use Rattle.std.specs.Prelude.{None, Some}
+use Rattle.image.specs.Lent.{put_at}
 use Prim.Native.Nat.{ℕ, ◌+◌, ◌*◌, ◌<◌, ◌≤◌}
 use native.Mathlib.Omega.{arith}
 use mathlib.Core.Bool.{Bool, true, false, true≢false, false≢true}
@@ -9,10 +11,8 @@ use mathlib.Core.Path.{◌≡◌, refl, sym, ◌∙◌}
 use lib.Dec.{eqb}
 use lib.ListN.{length, length-append}
 use Rattle.image.proofs.TestLaws.{by_test, le_or_lt}
-use Rattle.image.specs.declared.disk.Disk.TheVariants.{Present}
 use Rattle.image.specs.declared.layout.Geometry.{Geometry}
-use Rattle.image.specs.declared.lent.Effect.{Effect}
-use Rattle.image.specs.declared.lent.Effect.TheVariants.{Nothing, Store}
+use Rattle.image.specs.Lent.{Effect}
 use Rattle.image.specs.declared.slot.Id.{Id}
 use Rattle.image.specs.Disk.{disk_in}
 use Rattle.sectors.specs.declared.order.Job.TheVariants.{Move}
@@ -51,20 +51,20 @@ none_given_off call c h q w n off = go (call_rule call c q w n)
 module _ (g : Geometry) (cylinder : ℕ) (transfer : Transfer) (aim : Aim) (old img : List ℕ) where
   stored_more : (effect : Effect) (h : History) → LeftBy g cylinder transfer aim old img h
       → stored_count g h ≤ stored_count g (noted_store effect h)
-  stored_more Nothing h left = omega arith
-  stored_more (Store at byte) h left = go h.begun refl left.begun
+  stored_more None h left = omega arith
+  stored_more (Some put) h left = go h.begun refl left.begun
     where
       go : (b : Begun) → h.begun ≡ b
           → BegunHalf g cylinder transfer aim old img h.host (length h.finished) h.begun
-          → stored_count g h ≤ stored_count g (stored_by at byte h.begun h)
+          → stored_count g h ≤ stored_count g (stored_by put.at put.byte h.begun h)
       go no_one e half = rw e (omega arith)
       go (some_of mark bytes) e half =
           let (st, hd) = rw e at half in
           rw e
-          (by_test (eqb at mark)
+          (by_test (eqb put.at mark)
           (λ (x : History). length h.finished * passing g + length bytes ≤ stored_count g x) _ _
           (λ t. omega (arith, hd.short))
-          (λ t. omega (arith, length-append bytes (byte ∷ []))))
+          (λ t. omega (arith, length-append bytes (put.byte ∷ []))))
 
   -- no sector has more bytes than it holds
   stored_most : (h : History) → LeftBy g cylinder transfer aim old img h → stored_count g h ≤ sector_count h * passing g
@@ -79,18 +79,18 @@ module _ (g : Geometry) (cylinder : ℕ) (transfer : Transfer) (aim : Aim) (old 
           rw e (omega (arith, hd.short))
 
 sectors_more : (effect : Effect) (h : History) → sector_count h ≤ sector_count (noted_store effect h)
-sectors_more Nothing h = omega arith
-sectors_more (Store at byte) h = go h.begun refl
+sectors_more None h = omega arith
+sectors_more (Some put) h = go h.begun refl
   where
-    go : (b : Begun) → h.begun ≡ b → sector_count h ≤ sector_count (stored_by at byte h.begun h)
+    go : (b : Begun) → h.begun ≡ b → sector_count h ≤ sector_count (stored_by put.at put.byte h.begun h)
     go no_one e = rw e (omega arith)
     go (some_of mark bytes) e =
         rw e
-        (by_test (eqb at mark) (λ (x : History). length h.finished + 1 ≤ sector_count x) _ _
+        (by_test (eqb put.at mark) (λ (x : History). length h.finished + 1 ≤ sector_count x) _ _
         (λ t. omega arith) (λ t. omega arith))
 
 module _ (g : Geometry) (cylinder : ℕ) (order : Order) (transfer : Transfer) (id : Id) (old : List ℕ)
-    (disk : disk_in old ≡ Present g) (moves : order.job ≡ Move transfer id) (wr : transfer.pass ≡ Write)
+    (disk : disk_in old ≡ Some g) (moves : order.job ≡ Move transfer id) (wr : transfer.pass ≡ Write)
     (hr : id.r < 256) (he : transfer.eot < 256) (hd : order.drive < 4) where
   abbrev Running : Controller → List ℕ → History → Type 0
   Running c img h = Run g cylinder order transfer id old disk moves wr hr he hd c img h

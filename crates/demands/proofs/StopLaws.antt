@@ -1,6 +1,7 @@
 -- A read that its first sector stops (proofs/FollowLaws), over every list of calls: if it ends, it ends with what that
 -- sector's mark says, and with ST1's 10 beside it if a byte was lost (01 Read, Result; 02 2026-02).
 -- Assumes nothing.
+use Rattle.std.specs.Prelude.{None, Some}
 use Prim.Native.Nat.{ℕ, zero, suc, ◌+◌, ◌%◌, ◌<◌}
 use native.Mathlib.Omega.{arith}
 use mathlib.Core.Bool.{Bool, true, false, not, true≢false, false≢true}
@@ -22,9 +23,7 @@ use Rattle.sectors.specs.Result.{st0_of, other_bit, late_bit, moves_of}
 use Rattle.sectors.specs.Track.{has_track, stays_of}
 use Rattle.engine.specs.First.{gate_of, task_of, moving_of, start_job, entered_of, begin_of}
 use Rattle.engine.specs.Step.{stage_of, work_step, go_on_of}
-use Rattle.image.specs.declared.disk.Disk.TheVariants.{Present}
 use Rattle.image.specs.declared.layout.Geometry.{Geometry}
-use Rattle.image.specs.declared.lent.Effect.TheVariants.{Nothing}
 use Rattle.image.specs.declared.slot.Id.{Id}
 use Rattle.image.specs.Disk.{disk_in}
 use Rattle.image.specs.Lent.{pick_of}
@@ -83,7 +82,7 @@ timely_serves =
       lost = λ c t. t;
     }
 
-module _ (img : List ℕ) (g : Geometry) (disk : disk_in img ≡ Present g) (order : Order) (low : order.drive < 4)
+module _ (img : List ℕ) (g : Geometry) (disk : disk_in img ≡ Some g) (order : Order) (low : order.drive < 4)
     (head t : ℕ) (transfer : Transfer) (id : Id) (job : order.job ≡ Move transfer id) (kind broken : Bool)
     (b : StopsAt g img head order.side t kind broken transfer id) (Served : Controller → Type 0) (L : Type 0)
     (serving : Serving Served L) (only : L → broken ≡ true) where
@@ -107,13 +106,13 @@ module _ (img : List ℕ) (g : Geometry) (disk : disk_in img ≡ Present g) (ord
         → OnStage broken other t stage → Way c
     over : Over c → Way c
 
-  seen : (dor : ℕ) → motor_in dor order.drive ≡ true → seen_of dor order.drive img ≡ Present g
+  seen : (dor : ℕ) → motor_in dor order.drive ≡ true → seen_of dor order.drive img ≡ Some g
   unfolding seen_of
   seen dor m = rw (m, disk)
 
   -- the first tick: the tests are passed, and the search starts at slot 0
   begun : (fifo : Fifo)
-      → begin_of order (Present g) head fifo ≡ moves_of (Searching (fresh_at 0)) site (task_of transfer id) fifo Nothing
+      → begin_of order (Some g) head fifo ≡ moves_of (Searching (fresh_at 0)) site (task_of transfer id) fifo None
   unfolding begin_of gate_of entered_of start_job moving_of has_track
   begun fifo =
       simp (
@@ -125,7 +124,7 @@ module _ (img : List ℕ) (g : Geometry) (disk : disk_in img ≡ Present g) (ord
 
   -- a later tick
   gone_on : (task : Task) (stage : Stage) (fifo : Fifo) (efifo : Bool) (fifothr : ℕ)
-      → go_on_of (Moving site task stage) (Present g) head img fifo efifo fifothr
+      → go_on_of (Moving site task stage) (Some g) head img fifo efifo fifothr
       ≡ stage_of stage site task head img fifo efifo fifothr
   unfolding go_on_of stays_of work_step
   gone_on task stage fifo efifo fifothr = simp (same_geometry g)
@@ -143,7 +142,7 @@ module _ (img : List ℕ) (g : Geometry) (disk : disk_in img ≡ Present g) (ord
   no_wait c late (Storing slot done) s p on l w = w
 
   -- where a tick's step leads
-  landed : (c : Controller) (o : Step) → Followed o → (o.effect ≡ Nothing) × Way (settled_of o.then o.fifo c)
+  landed : (c : Controller) (o : Step) → Followed o → (o.effect ≡ None) × Way (settled_of o.then o.fifo c)
   unfolding settled_of with_fifo with_phase answered_of
   landed c o (goes late stage fifo l w e) = rw e (refl, works late stage refl l w)
   landed c o (ends late verdict l (a, x, y, i) e) =
@@ -157,9 +156,9 @@ module _ (img : List ℕ) (g : Geometry) (disk : disk_in img ≡ Present g) (ord
       → motor_in c.registers.dor order.drive ≡ true → pick_of order.drive a b' ≡ img
       → (drive_at (order.drive % 4) c.drives).head ≡ head → Served c → Way c
       → (o : Step) × (ruled_of a b' c ≡ decided_of order.drive o c)
-      × ((o.effect ≡ Nothing) × Way (settled_of o.then o.fifo c))
+      × ((o.effect ≡ None) × Way (settled_of o.then o.fifo c))
   on_step_lem a b' c q w motor lent heads served (starts p) =
-      let first : Step = moves_of (Searching (fresh_at 0)) site (task_of transfer id) c.fifo Nothing in (
+      let first : Step = moves_of (Searching (fresh_at 0)) site (task_of transfer id) c.fifo None in (
         first,
         tick_starts a b' c order q p ∙ rw (lent, seen _ motor, heads, begun c.fifo),
         landed c first (goes false (Searching (fresh_at 0)) c.fifo (λ e. absurd (false≢true e)) (omega arith) refl),

@@ -2,6 +2,7 @@
 -- list of calls: beside what PowerCutLaws carries, the sector sought still lies ahead of the search, and no end is met
 -- but Next's behind the last sector.
 -- Assumes nothing.
+use Rattle.std.specs.Prelude.{None, Some}
 use Prim.Native.Nat.{ℕ, zero, suc, ◌+◌, ◌*◌, ◌%◌, ◌≤◌, ◌<◌}
 use native.Mathlib.Nat.{mod-eq_of_lt}
 use native.Mathlib.Omega.{arith}
@@ -16,10 +17,8 @@ use Rattle.image.proofs.DiskLaws.{present_fits}
 use Rattle.image.proofs.LayoutLaws.{product_le}
 use Rattle.image.proofs.MarkLaws.{mark_of_byte}
 use Rattle.image.proofs.TestLaws.{le_or_lt}
-use Rattle.image.specs.declared.disk.Disk.TheVariants.{Present}
 use Rattle.image.specs.declared.layout.Geometry.{Geometry}
-use Rattle.image.specs.declared.lent.Effect.{Effect}
-use Rattle.image.specs.declared.lent.Effect.TheVariants.{Nothing}
+use Rattle.image.specs.Lent.{Effect}
 use Rattle.image.specs.declared.mark.Mark.TheVariants.{Data}
 use Rattle.image.specs.declared.slot.Id.{Id}
 use Rattle.image.specs.Disk.{Fits, disk_in}
@@ -523,7 +522,7 @@ module _ (g : Geometry) (cylinder drive : ℕ) (transfer : Transfer) (aim : Aim)
 
 -- The record, call by call.
 module _ (g : Geometry) (cylinder : ℕ) (order : Order) (transfer : Transfer) (id : Id) (old : List ℕ)
-    (disk : disk_in old ≡ Present g) (moves_it : order.job ≡ Move transfer id) (wr : transfer.pass ≡ Write)
+    (disk : disk_in old ≡ Some g) (moves_it : order.job ≡ Move transfer id) (wr : transfer.pass ≡ Write)
     (hr : id.r < 256) (he : transfer.eot < 256) (hd : order.drive < 4) (open_to : g.protect ≡ false)
     (last : ℕ) (there : AllThere g old cylinder transfer (record { id = id; side = order.side }) last)
     (plan : Plan g transfer (record { id = id; side = order.side }) last) where
@@ -568,15 +567,15 @@ module _ (g : Geometry) (cylinder : ℕ) (order : Order) (transfer : Transfer) (
       (rw (eq-eqb d drive q) (settled_course o.then o.fifo c _ k))
 
   -- the disk seen while the motor is on
-  seen : (dor : ℕ) (img : List ℕ) → disk_in img ≡ Present g → motor_in dor drive ≡ true
-      → seen_of dor drive img ≡ Present g
+  seen : (dor : ℕ) (img : List ℕ) → disk_in img ≡ Some g → motor_in dor drive ≡ true
+      → seen_of dor drive img ≡ Some g
   unfolding seen_of
   seen dor img d m = rw (m, d)
 
   -- the first tick: the tests are passed, and the search starts at slot 0
-  begun : begin_of order (Present g) cylinder emptied
+  begun : begin_of order (Some g) cylinder emptied
       ≡ moves_of (Searching (fresh_at 0)) (record { drive = drive; side = order.side; disk = g }) (task_of transfer id)
-      (opened_of emptied) Nothing
+      (opened_of emptied) None
   unfolding begin_of gate_of entered_of start_job moving_of has_track
   begun =
       let has = (there.there 0 (omega arith)).stands.has in
@@ -591,7 +590,7 @@ module _ (g : Geometry) (cylinder : ℕ) (order : Order) (transfer : Transfer) (
   -- a later one
   gone_on : (site : Site) (task : Task) (stage : Stage) (img : List ℕ) (fifo : Fifo) (efifo : Bool) (fifothr : ℕ)
       → site.disk ≡ g
-      → go_on_of (Moving site task stage) (Present g) cylinder img fifo efifo fifothr
+      → go_on_of (Moving site task stage) (Some g) cylinder img fifo efifo fifothr
       ≡ stage_of stage site task cylinder img fifo efifo fifothr
   unfolding go_on_of stays_of work_step
   gone_on site task stage img fifo efifo fifothr e = simp (e, same_geometry g)
@@ -611,7 +610,7 @@ module _ (g : Geometry) (cylinder : ℕ) (order : Order) (transfer : Transfer) (
   tick_on a b c img h q w lent m timely few tells on (to_start p u i f) =
       tick_course a b c img drive
       (moves_of (Searching (fresh_at 0)) (record { drive = drive; side = order.side; disk = g }) (task_of transfer id)
-      (opened_of emptied) Nothing)
+      (opened_of emptied) None)
       (tick_starts a b c order q p
       ∙ rw (
         lent,
@@ -627,8 +626,8 @@ module _ (g : Geometry) (cylinder : ℕ) (order : Order) (transfer : Transfer) (
       let lent' : pick_of site.drive a b ≡ img = ap (λ (d : ℕ). pick_of d a b) k.drive_is ∙ lent in
       let head : (drive_at (site.drive % 4) c.drives).head ≡ cylinder =
       ap (λ (d : ℕ). (drive_at (d % 4) c.drives).head) k.drive_is ∙ head_is c u in
-      let present : disk_in img ≡ Present g = disk_left g cylinder transfer aim old img h k.sofar ∙ disk in
-      let see : seen_of c.registers.dor site.drive img ≡ Present g =
+      let present : disk_in img ≡ Some g = disk_left g cylinder transfer aim old img h k.sofar ∙ disk in
+      let see : seen_of c.registers.dor site.drive img ≡ Some g =
       ap (λ (d : ℕ). seen_of c.registers.dor d img) k.drive_is ∙ seen c.registers.dor img present m in
       tick_course a b c img site.drive
       (stage_of stage site task cylinder img c.fifo c.registers.efifo c.registers.fifothr)

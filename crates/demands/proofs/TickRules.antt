@@ -1,6 +1,8 @@
 -- A tick of a command at work, rule by rule: the view of `go_on_of` that the theorems over lists of calls go by. Each
 -- rule carries what holds where it is taken, and what it gives, as equations.
 -- Assumes nothing.
+use Rattle.std.specs.Prelude.{None, Some}
+use Rattle.image.specs.Lent.{put_at}
 use Prim.Native.Nat.{ℕ, zero, suc, ◌+◌, ◌≤◌, ◌<◌}
 use native.Mathlib.Omega.{arith}
 use mathlib.Core.Bool.{Bool, beq, true, false, ◌&&◌, not, cond, true≢false}
@@ -34,8 +36,7 @@ use Rattle.sectors.specs.Search as finding
 use Rattle.engine.specs.Step.{stage_of}
 use Rattle.sectors.specs.Track.{has_track, next_slot, mark_place, data_place, pass_bytes, sector_bytes}
 use Rattle.sectors.specs.Write.{written_mark, underrun, await_of, put_of, dry_of, written_of, store_of}
-use Rattle.image.specs.declared.lent.Effect.{Effect}
-use Rattle.image.specs.declared.lent.Effect.TheVariants.{Nothing, Store}
+use Rattle.image.specs.Lent.{Effect}
 use Rattle.image.specs.declared.mark.Mark.{Mark}
 use Rattle.image.specs.declared.mark.Mark.TheVariants.{NoId, Data, NoData}
 use Rattle.image.specs.Mark.{mark_of}
@@ -115,102 +116,102 @@ pub data Rule (head : ℕ) (img : List ℕ) (efifo : Bool) (fifothr : ℕ) (site
   -- the ends that are no Next, nor of a sector read to its end: ST1 01, 04 (not found), 10 (late), 01 with ST2 01
   not_found : (look : Search) (verdict : Verdict) → stage ≡ Searching look → hits img site head task look.slot ≡ false
       → site.disk.slots ≤ look.slot + 1 → 1 ≤ look.passes
-      → (st1 : ℕ) → (st1 ≡ 0x01) ⊎ (st1 ≡ 0x04) → Fails st1 site task verdict → o ≡ ends_with verdict Nothing
+      → (st1 : ℕ) → (st1 ≡ 0x01) ⊎ (st1 ≡ 0x04) → Fails st1 site task verdict → o ≡ ends_with verdict None
       → Rule head img efifo fifothr site task fifo stage o
   no_data : (look : Search) (verdict : Verdict) → stage ≡ Searching look → hits img site head task look.slot ≡ true
       → task.transfer.pass ≡ Read → mark_of (slot_of img site head look.slot).mark ≡ NoData
-      → Fails 0x01 site task verdict → o ≡ ends_with verdict Nothing → Rule head img efifo fifothr site task fifo stage o
+      → Fails 0x01 site task verdict → o ≡ ends_with verdict None → Rule head img efifo fifothr site task fifo stage o
   no_side : (slot : ℕ) (verdict : Verdict) → stage ≡ Turning slot → has_track site.disk head site.side ≡ false
-      → Fails 0x01 site task verdict → o ≡ ends_with verdict Nothing
+      → Fails 0x01 site task verdict → o ≡ ends_with verdict None
       → Rule head img efifo fifothr site task fifo stage o
   late : (verdict : Verdict) → LateEnds site task verdict → Late efifo site task fifo stage → Waits stage
-      → o ≡ ends_with verdict Nothing
+      → o ≡ ends_with verdict None
       → Rule head img efifo fifothr site task fifo stage o
   -- the search
   misses : (look on : Search) → stage ≡ Searching look → hits img site head task look.slot ≡ false
       → look.slot + 1 < site.disk.slots → on.slot ≡ look.slot + 1 → on.passes ≡ look.passes
-      → o ≡ moves_of (Searching on) site task fifo Nothing → Rule head img efifo fifothr site task fifo stage o
+      → o ≡ moves_of (Searching on) site task fifo None → Rule head img efifo fifothr site task fifo stage o
   passes : (look on : Search) → stage ≡ Searching look → hits img site head task look.slot ≡ false
       → site.disk.slots ≤ look.slot + 1 → look.passes ≡ 0 → on.slot ≡ 0 → on.passes ≡ 1
-      → o ≡ moves_of (Searching on) site task fifo Nothing → Rule head img efifo fifothr site task fifo stage o
+      → o ≡ moves_of (Searching on) site task fifo None → Rule head img efifo fifothr site task fifo stage o
   to_write : (look : Search) → stage ≡ Searching look → hits img site head task look.slot ≡ true
-      → task.transfer.pass ≡ Write → o ≡ moves_of (Awaiting look.slot 0) site task fifo Nothing
+      → task.transfer.pass ≡ Write → o ≡ moves_of (Awaiting look.slot 0) site task fifo None
       → Rule head img efifo fifothr site task fifo stage o
   to_read : (look : Search) (deleted broken other : Bool) → stage ≡ Searching look
       → hits img site head task look.slot ≡ true → task.transfer.pass ≡ Read
       → mark_of (slot_of img site head look.slot).mark ≡ Data deleted broken
       → other ≡ not (beq deleted task.transfer.deleted) → (other ≡ true → task.transfer.sk ≡ false)
       → o ≡ moves_of (Reading (record { slot = look.slot; broken = broken; other = other }) 0) site
-      (with_other other task) fifo Nothing
+      (with_other other task) fifo None
       → Rule head img efifo fifothr site task fifo stage o
   skips : (look : Search) (deleted broken : Bool) → stage ≡ Searching look
       → hits img site head task look.slot ≡ true → task.transfer.pass ≡ Read
       → mark_of (slot_of img site head look.slot).mark ≡ Data deleted broken
-      → (deleted ≡ task.transfer.deleted → ⊥) → task.transfer.sk ≡ true → NextRule fifo.tc look.slot site (with_other true task) fifo Nothing o
+      → (deleted ≡ task.transfer.deleted → ⊥) → task.transfer.sk ≡ true → NextRule fifo.tc look.slot site (with_other true task) fifo None o
       → Rule head img efifo fifothr site task fifo stage o
-  turned_over : (slot : ℕ) → stage ≡ Turning slot → o ≡ moves_of (Searching (fresh_at slot)) site task fifo Nothing
+  turned_over : (slot : ℕ) → stage ≡ Turning slot → o ≡ moves_of (Searching (fresh_at slot)) site task fifo None
       → Rule head img efifo fifothr site task fifo stage o
   -- the write
   waits : (slot wait : ℕ) → stage ≡ Awaiting slot wait → wait < 63
-      → o ≡ moves_of (Awaiting slot (wait + 1)) site task fifo Nothing
+      → o ≡ moves_of (Awaiting slot (wait + 1)) site task fifo None
       → Rule head img efifo fifothr site task fifo stage o
   begins : (slot wait : ℕ) → stage ≡ Awaiting slot wait → 0 < fifo.count
-      → o ≡ moves_of (Storing slot 0) site task fifo (Store (mark_place site head slot) (written_mark true task))
+      → o ≡ moves_of (Storing slot 0) site task fifo (Some (put_at (mark_place site head slot) (written_mark true task)))
       → Rule head img efifo fifothr site task fifo stage o
   puts : (slot done : ℕ) → stage ≡ Storing slot done → done < pass_bytes site task → 0 < fifo.count
       → o ≡ moves_of (Storing slot (done + 1)) site task (drawn_of efifo fifothr fifo)
-      (Store (data_place site head slot done) (front_of fifo))
+      (Some (put_at (data_place site head slot done) (front_of fifo)))
       → Rule head img efifo fifothr site task fifo stage o
   pads : (slot done : ℕ) → stage ≡ Storing slot done → done < sector_bytes site → fifo.count ≡ 0 → fifo.tc ≡ true
-      → o ≡ moves_of (Storing slot (done + 1)) site task fifo (Store (data_place site head slot done) 0x00)
+      → o ≡ moves_of (Storing slot (done + 1)) site task fifo (Some (put_at (data_place site head slot done) 0x00))
       → Rule head img efifo fifothr site task fifo stage o
   -- a byte is missing: the first of the zeros
   dries : (slot done : ℕ) → stage ≡ Storing slot done → done < pass_bytes site task → fifo.count ≡ 0 → fifo.tc ≡ false
-      → o ≡ moves_of (Storing slot (done + 1)) site (tardy task) shut (Store (data_place site head slot done) 0x00)
+      → o ≡ moves_of (Storing slot (done + 1)) site (tardy task) shut (Some (put_at (data_place site head slot done) 0x00))
       → Rule head img efifo fifothr site task fifo stage o
   -- and the good mark of such a sector
   ends_short : (slot done : ℕ) (verdict : Verdict) → stage ≡ Storing slot done → sector_bytes site ≤ done
       → task.late ≡ true → verdict.st2 ≡ other_bit task.other + 0x00 → LateEnds site task verdict
-      → o ≡ ends_with verdict (Store (mark_place site head slot) (written_mark false task))
+      → o ≡ ends_with verdict (Some (put_at (mark_place site head slot) (written_mark false task)))
       → Rule head img efifo fifothr site task fifo stage o
   finishes : (slot done : ℕ) → stage ≡ Storing slot done → sector_bytes site ≤ done → task.late ≡ false
-      → NextRule (fifo.tc && eqb fifo.count 0) slot site task fifo (Store (mark_place site head slot) (written_mark false task)) o
+      → NextRule (fifo.tc && eqb fifo.count 0) slot site task fifo (Some (put_at (mark_place site head slot) (written_mark false task))) o
       → Rule head img efifo fifothr site task fifo stage o
   -- the read
   moves : (sector : Sector) (done : ℕ) (fifo' : Fifo) → stage ≡ Reading sector done → done + 1 < sector_bytes site
       → Filled head img efifo fifothr site fifo sector done false fifo'
-      → o ≡ moves_of (Reading sector (done + 1)) site task fifo' Nothing
+      → o ≡ moves_of (Reading sector (done + 1)) site task fifo' None
       → Rule head img efifo fifothr site task fifo stage o
   moves_last : (sector : Sector) (done : ℕ) (fifo' : Fifo) → stage ≡ Reading sector done → sector_bytes site ≤ done + 1
       → Filled head img efifo fifothr site fifo sector done true fifo'
-      → o ≡ moves_of (Draining sector 0) site task fifo' Nothing → Rule head img efifo fifothr site task fifo stage o
+      → o ≡ moves_of (Draining sector 0) site task fifo' None → Rule head img efifo fifothr site task fifo stage o
   -- the FIFO is full: the byte is lost
   overruns : (sector : Sector) (done : ℕ) → stage ≡ Reading sector done → done + 1 < sector_bytes site
       → fifo.tc ≡ false → full_of efifo fifo ≡ true
-      → o ≡ moves_of (Reading sector (done + 1)) site (tardy task) shut Nothing
+      → o ≡ moves_of (Reading sector (done + 1)) site (tardy task) shut None
       → Rule head img efifo fifothr site task fifo stage o
   overruns_last : (sector : Sector) (done : ℕ) → stage ≡ Reading sector done → sector_bytes site ≤ done + 1
       → fifo.tc ≡ false → full_of efifo fifo ≡ true
-      → o ≡ moves_of (Draining sector 0) site (tardy task) shut Nothing
+      → o ≡ moves_of (Draining sector 0) site (tardy task) shut None
       → Rule head img efifo fifothr site task fifo stage o
   drains : (sector : Sector) (looks : ℕ) → stage ≡ Draining sector looks → looks < 63
-      → o ≡ moves_of (Draining sector (looks + 1)) site task fifo Nothing
+      → o ≡ moves_of (Draining sector (looks + 1)) site task fifo None
       → Rule head img efifo fifothr site task fifo stage o
   data_error : (sector : Sector) (looks : ℕ) (verdict : Verdict) → stage ≡ Draining sector looks
       → sector.broken ≡ true → verdict.st2 ≡ other_bit task.other + 0x20
-      → Fails 0x20 site task verdict → o ≡ ends_with verdict Nothing → Rule head img efifo fifothr site task fifo stage o
+      → Fails 0x20 site task verdict → o ≡ ends_with verdict None → Rule head img efifo fifothr site task fifo stage o
   -- a sector of which a byte was lost, at its end
   ends_late : (sector : Sector) (looks : ℕ) (verdict : Verdict) → stage ≡ Draining sector looks
-      → sector.broken ≡ false → task.late ≡ true → LateEnds site task verdict → o ≡ ends_with verdict Nothing
+      → sector.broken ≡ false → task.late ≡ true → LateEnds site task verdict → o ≡ ends_with verdict None
       → Rule head img efifo fifothr site task fifo stage o
   other_kind : (sector : Sector) (looks : ℕ) (verdict : Verdict) → stage ≡ Draining sector looks
       → sector.broken ≡ false → task.late ≡ false → verdict.st1 ≡ 0x00 → sector.other ≡ true
       → verdict.st2 ≡ other_bit task.other + 0x00
-      → EndsInHand site task verdict → fifo.count ≡ 0 → o ≡ ends_with verdict Nothing
+      → EndsInHand site task verdict → fifo.count ≡ 0 → o ≡ ends_with verdict None
       → Rule head img efifo fifothr site task fifo stage o
   drained : (sector : Sector) (looks : ℕ) → stage ≡ Draining sector looks → sector.broken ≡ false
       → task.late ≡ false → sector.other ≡ false → fifo.count ≡ 0
-      → NextRule fifo.tc sector.slot site task fifo Nothing o → Rule head img efifo fifothr site task fifo stage o
+      → NextRule fifo.tc sector.slot site task fifo None o → Rule head img efifo fifothr site task fifo stage o
 
 -- 01 Next
 module _ (slot : ℕ) (site : Site) (task : Task) (fifo : Fifo) (effect : Effect) where
@@ -311,7 +312,7 @@ module _ (head : ℕ) (img : List ℕ) (efifo : Bool) (fifothr : ℕ) (site : Si
       slots = site.disk.slots
 
       go : (a : Bool) → leb slots (look'.slot + 1) ≡ a → (b : Bool) → leb 1 look'.passes ≡ b → (a && b) ≡ false
-          → R (Searching look) (moves_of (Searching (one_on look' slots)) site task fifo Nothing)
+          → R (Searching look) (moves_of (Searching (one_on look' slots)) site task fifo None)
       go true l b m t =
           let k = leb-true slots (look'.slot + 1) l in
           let m' : leb 1 look'.passes ≡ false = m ∙ t in
@@ -335,7 +336,7 @@ module _ (head : ℕ) (img : List ℕ) (efifo : Bool) (fifothr : ℕ) (site : Si
   read_rule_at look deleted broken true o h w m =
       by_test task.transfer.sk (R (Searching look)) _ _
       (λ t. skips look deleted broken refl h w m (λ e. true≢false (o ∙ beq_same _ _ e)) t
-      (follow_rule look.slot site (with_other true task) fifo Nothing fifo.tc))
+      (follow_rule look.slot site (with_other true task) fifo None fifo.tc))
       (λ t. to_read look deleted broken true refl h w m o (λ x. t) refl)
   read_rule_at look deleted broken false o h w m = to_read look deleted broken false refl h w m o (λ x. absurd (true≢false (sym x))) refl
 
@@ -413,7 +414,7 @@ module _ (head : ℕ) (img : List ℕ) (efifo : Bool) (fifothr : ℕ) (site : Si
       (λ l. by_test sector.other (R (Draining sector looks)) _ _
       (λ u. other_kind sector looks _ refl t l (ap (λ (b : Bool). late_bit b + 0x00) l) u refl
       (record { st0 = refl; id = refl }) z refl)
-      (λ u. drained sector looks refl t l u z (follow_rule sector.slot site task fifo Nothing fifo.tc))))
+      (λ u. drained sector looks refl t l u z (follow_rule sector.slot site task fifo None fifo.tc))))
 
   drain_rule : (sector : Sector) (looks : ℕ) → R (Draining sector looks) (drain_of sector looks site task fifo)
   unfolding drain_of late_end move_end end_of

@@ -2,10 +2,9 @@
 -- TC came and every byte that the host handed over is in a finished sector, and the address says how many sectors are
 -- safe. A short sector is finished and not acknowledged.
 -- Assumes nothing.
-use Rattle.std.specs.Prelude.{ℕ, ◌+◌, ◌-◌, ◌*◌, ◌<◌, ◌≤◌, true, false, ◌||◌, cond, List, ◌⊎◌, ◌≡◌, leb, length, get_or}
+use Rattle.std.specs.Prelude.{ℕ, ◌+◌, ◌-◌, ◌*◌, ◌<◌, ◌≤◌, true, false, ◌||◌, cond, List, ◌⊎◌, ◌≡◌, leb, length, get_or, Some}
 use Rattle.sectors.specs.declared.order.Order.{Order}
 use Rattle.sectors.specs.declared.order.Transfer.{Transfer}
-use Rattle.image.specs.declared.disk.Disk.TheVariants.{Present}
 use Rattle.image.specs.declared.layout.Geometry.{Geometry}
 use Rattle.image.specs.declared.slot.Id.{Id}
 use Rattle.image.specs.Disk.{disk_in}
@@ -68,7 +67,7 @@ pub record Acknowledges (g : Geometry) (transfer : Transfer) (aim : Aim) (h : Hi
 abbrev pub Acknowledged : (Controller → Type 0) → Type 0
 Acknowledged From =
     (c : Controller) → From c → (order : Order) (transfer : Transfer) (id : Id) → Writes c order transfer id
-    → (old : List ℕ) (g : Geometry) → disk_in old ≡ Present g
+    → (old : List ℕ) (g : Geometry) → disk_in old ≡ Some g
     → (calls : List Call) → Its calls c → Alone order.drive old calls c
     → (run_calls calls c).phase ≡ Answering true
     → Acknowledges g transfer (record { id = id; side = order.side }) (history_of calls c no_history)

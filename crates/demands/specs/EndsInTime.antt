@@ -2,7 +2,7 @@
 -- (Sense Drive). What is counted are ticks; between them any calls may come, refused or not: port and DMA calls, notes,
 -- motor bits, gate, resets.
 -- Assumes nothing.
-use Rattle.std.specs.Prelude.{ℕ, ◌+◌, ◌*◌, ◌%◌, ◌≤◌, true, false, List, ◌≡◌, ltb}
+use Rattle.std.specs.Prelude.{ℕ, ◌+◌, ◌*◌, ◌%◌, ◌≤◌, true, false, List, ◌≡◌, ltb, None, Some}
 use Rattle.chip.specs.declared.codes.Entry.{Entry}
 use Rattle.chip.specs.declared.codes.Kind.{Kind}
 use Rattle.chip.specs.declared.codes.Kind.TheVariants.{Seek, Recalibrate}
@@ -10,7 +10,6 @@ use Rattle.drive.specs.declared.Drive.{Drive}
 use Rattle.drive.specs.Drive.{distance, recalibrate_steps}
 use Rattle.drive.specs.Due.{SeekDue, Recalibrates, MotionOver, head_after, over_after, recalibrate_report}
 use Rattle.sectors.specs.declared.order.Order.{Order}
-use Rattle.image.specs.declared.disk.Disk.TheVariants.{Absent, Present}
 use Rattle.image.specs.declared.layout.Geometry.{Geometry}
 use Rattle.image.specs.Disk.{disk_in}
 use Rattle.image.specs.Layout.{size_of}
@@ -32,7 +31,7 @@ bound_of g = 2 * (g.slots + 1) * (2 * g.slots + size_of g.n + 70)
 abbrev pub EndsInTime : (Controller → Type 0) → Type 0
 EndsInTime From =
     (c : Controller) → From c → (order : Order) → c.phase ≡ Starting order
-    → (img : List ℕ) (g : Geometry) → disk_in img ≡ Present g
+    → (img : List ℕ) (g : Geometry) → disk_in img ≡ Some g
     → (calls : List Call) → Alone order.drive img calls c → bound_of g ≤ tick_count calls
     → EndsWith Anyhow calls c
 
@@ -40,7 +39,7 @@ EndsInTime From =
 abbrev pub EndsInOne : (Controller → Type 0) → Type 0
 EndsInOne From =
     (c : Controller) → From c → (order : Order) → c.phase ≡ Starting order
-    → (a b : List ℕ) → seen_of c.registers.dor order.drive (pick_of order.drive a b) ≡ Absent
+    → (a b : List ℕ) → seen_of c.registers.dor order.drive (pick_of order.drive a b) ≡ None
     → (after (ticks a b) c).phase ≡ Answering true
 
 -- 01 Commands Sense Drive: ST3 at the next tick

@@ -1,15 +1,14 @@
 -- What a Format leaves of an image (01 Format): its stores are a script, one store a tick; after any of its calls the
 -- image is the old one with a first part of the script applied, and IC 00 says that it is whole.
 -- Assumes nothing.
-use Rattle.std.specs.Prelude.{ℕ, zero, suc, ◌+◌, ◌-◌, ◌*◌, ◌<◌, ◌≤◌, true, false, cond, List, [], ◌∷◌, ◌++◌, ◌⊎◌, ◌≡◌, eqb, ltb, length, get_or, set, take}
+use Rattle.image.specs.Lent.{put_at}
+use Rattle.std.specs.Prelude.{ℕ, zero, suc, ◌+◌, ◌-◌, ◌*◌, ◌<◌, ◌≤◌, true, false, cond, List, [], ◌∷◌, ◌++◌, ◌⊎◌, ◌≡◌, eqb, ltb, length, get_or, set, take, None, Some}
 use Rattle.sectors.specs.declared.order.Job.TheVariants.{Format}
 use Rattle.sectors.specs.declared.order.Order.{Order}
 use Rattle.sectors.specs.declared.order.Plan.{Plan}
 use Rattle.sectors.specs.Result.{st0_of}
-use Rattle.image.specs.declared.disk.Disk.TheVariants.{Present}
 use Rattle.image.specs.declared.layout.Geometry.{Geometry}
-use Rattle.image.specs.declared.lent.Effect.{Effect}
-use Rattle.image.specs.declared.lent.Effect.TheVariants.{Nothing, Store}
+use Rattle.image.specs.Lent.{Effect}
 use Rattle.image.specs.declared.mark.Mark.{Mark}
 use Rattle.image.specs.declared.mark.Mark.TheVariants.{NoId, Data}
 use Rattle.image.specs.declared.slot.Id.{Id}
@@ -81,8 +80,8 @@ module _ (g : Geometry) (cylinder side : ℕ) where
 
 -- how many stores the calls made: ticks that stored
 abbrev pub counted_by : Effect → ℕ → ℕ
-counted_by Nothing m = m
-counted_by (Store at byte) m = m + 1
+counted_by None m = m
+counted_by (Some put) m = m + 1
 
 abbrev pub stores_by : Call → Controller → ℕ → ℕ
 stores_by (powers head0 head1) c m = m
@@ -159,7 +158,7 @@ module _ (g : Geometry) (cylinder drive side : ℕ) (plan : Plan) (host : List �
 abbrev pub FormatScript : (Controller → Type 0) → Type 0
 FormatScript From =
     (c : Controller) → From c → (order : Order) (plan : Plan) → Formats c order plan
-    → (old : List ℕ) (g : Geometry) → disk_in old ≡ Present g
+    → (old : List ℕ) (g : Geometry) → disk_in old ≡ Some g
     → (calls : List Call) → Its calls c → Alone order.drive old calls c
     → FormattedBy g (head_of order c) order.drive order.side plan (history_of calls c no_history).host
     (stores_of calls c 0) old (image_left order.drive old calls c) (run_calls calls c)

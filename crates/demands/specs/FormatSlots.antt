@@ -1,10 +1,9 @@
 -- What a Format leaves of an image (01 Format): of its track, slot by slot, the slots finished, at most one begun with
 -- mark 0, those after SC cleared to mark 0 and the others as they were; and every byte elsewhere as it was.
 -- Assumes nothing.
-use Rattle.std.specs.Prelude.{ℕ, ◌+◌, ◌-◌, ◌*◌, ◌<◌, ◌≤◌, false, List, ◌≡◌, length, get_or}
+use Rattle.std.specs.Prelude.{ℕ, ◌+◌, ◌-◌, ◌*◌, ◌<◌, ◌≤◌, false, List, ◌≡◌, length, get_or, Some}
 use Rattle.sectors.specs.declared.order.Order.{Order}
 use Rattle.sectors.specs.declared.order.Plan.{Plan}
-use Rattle.image.specs.declared.disk.Disk.TheVariants.{Present}
 use Rattle.image.specs.declared.layout.Geometry.{Geometry}
 use Rattle.image.specs.declared.mark.Mark.TheVariants.{NoId, Data}
 use Rattle.image.specs.Disk.{disk_in}
@@ -47,7 +46,7 @@ module _ (g : Geometry) (cylinder side : ℕ) (plan : Plan) (host : List ℕ) (m
 abbrev pub FormatSlots : (Controller → Type 0) → Type 0
 FormatSlots From =
     (c : Controller) → From c → (order : Order) (plan : Plan) → Formats c order plan
-    → (old : List ℕ) (g : Geometry) → disk_in old ≡ Present g
+    → (old : List ℕ) (g : Geometry) → disk_in old ≡ Some g
     → (calls : List Call) → Its calls c → Alone order.drive old calls c
     → SlotsLeft g (head_of order c) order.side plan (history_of calls c no_history).host (stores_of calls c 0) old
     (image_left order.drive old calls c)
@@ -64,6 +63,6 @@ pub record KeepsElsewhere (g : Geometry) (cylinder side : ℕ) (old img : List �
 abbrev pub FormatStays : (Controller → Type 0) → Type 0
 FormatStays From =
     (c : Controller) → From c → (order : Order) (plan : Plan) → Formats c order plan
-    → (old : List ℕ) (g : Geometry) → disk_in old ≡ Present g
+    → (old : List ℕ) (g : Geometry) → disk_in old ≡ Some g
     → (calls : List Call) → Its calls c → Alone order.drive old calls c
     → KeepsElsewhere g (head_of order c) order.side old (image_left order.drive old calls c)

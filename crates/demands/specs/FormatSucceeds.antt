@@ -1,10 +1,9 @@
 -- When a Format succeeds (01 Format, First tick, FIFO and request), and which host is in time for it.
 -- Assumes nothing.
-use Rattle.std.specs.Prelude.{ℕ, ◌*◌, ◌≤◌, true, false, cond, List, [], ◌∷◌, ◌⊎◌, ◌≡◌, length, ltb}
+use Rattle.std.specs.Prelude.{ℕ, ◌*◌, ◌≤◌, true, false, cond, List, [], ◌∷◌, ◌⊎◌, ◌≡◌, length, ltb, Some}
 use Rattle.sectors.specs.declared.order.Order.{Order}
 use Rattle.sectors.specs.declared.order.Plan.{Plan}
 use Rattle.sectors.specs.Result.{st0_of}
-use Rattle.image.specs.declared.disk.Disk.TheVariants.{Present}
 use Rattle.image.specs.declared.layout.Geometry.{Geometry}
 use Rattle.image.specs.Disk.{disk_in}
 use Rattle.fdc.specs.declared.record.Controller.{Controller}
@@ -41,7 +40,7 @@ pub record Formatted (order : Order) (plan : Plan) (cylinder : ℕ) (e : Control
 abbrev pub FormatSucceeds : (Controller → Type 0) → Type 0
 FormatSucceeds From =
     (c : Controller) → From c → (order : Order) (plan : Plan) → Formats c order plan
-    → (old : List ℕ) (g : Geometry) → disk_in old ≡ Present g → Allowed g (head_of order c) order.side plan
+    → (old : List ℕ) (g : Geometry) → disk_in old ≡ Some g → Allowed g (head_of order c) order.side plan
     → (calls : List Call) → Spins order.drive calls c → Alone order.drive old calls c → InTime calls c
     → bound_of g ≤ tick_count calls
     → EndsWith (Formatted order plan (head_of order c)) calls c
@@ -50,7 +49,7 @@ FormatSucceeds From =
 abbrev pub FormatServed : (Controller → Type 0) → Type 0
 FormatServed From =
     (c : Controller) → From c → (order : Order) (plan : Plan) → Formats c order plan
-    → (old : List ℕ) (g : Geometry) → disk_in old ≡ Present g
+    → (old : List ℕ) (g : Geometry) → disk_in old ≡ Some g
     → (calls : List Call) → Alone order.drive old calls c → ServedUpTo (plan.sc * slot_draws) calls c no_history
     → InTime calls c
 

@@ -1,12 +1,11 @@
 -- What a read command hands the host (01 Read, Next, Result): the k-th byte that the host took is byte k mod P of the
 -- command's sector k div P, the image stays as it was, and the result says what was handed over.
 -- Assumes nothing.
-use Rattle.std.specs.Prelude.{ℕ, suc, ◌+◌, ◌-◌, ◌*◌, ◌/◌, ◌%◌, ◌<◌, ◌≤◌, Bool, true, false, ◌||◌, not, cond, List, [], ◌∷◌, ◌++◌, ◌≡◌, eqb, length, get_or}
+use Rattle.std.specs.Prelude.{ℕ, suc, ◌+◌, ◌-◌, ◌*◌, ◌/◌, ◌%◌, ◌<◌, ◌≤◌, Bool, true, false, ◌||◌, not, cond, List, [], ◌∷◌, ◌++◌, ◌≡◌, eqb, length, get_or, Some}
 use Rattle.sectors.specs.declared.order.Job.TheVariants.{Move}
 use Rattle.sectors.specs.declared.order.Order.{Order}
 use Rattle.sectors.specs.declared.order.Pass.TheVariants.{Read}
 use Rattle.sectors.specs.declared.order.Transfer.{Transfer}
-use Rattle.image.specs.declared.disk.Disk.TheVariants.{Present}
 use Rattle.image.specs.declared.layout.Geometry.{Geometry}
 use Rattle.image.specs.declared.mark.Mark.TheVariants.{Data}
 use Rattle.image.specs.declared.slot.Id.{Id}
@@ -159,7 +158,7 @@ pub record HandedBy (c e : Controller) (order : Order) (transfer : Transfer) (id
 abbrev pub HandedOver : (Controller → Type 0) → Type 0
 HandedOver From =
     (c : Controller) → From c → (order : Order) (transfer : Transfer) (id : Id) → Reads c order transfer id
-    → (img : List ℕ) (g : Geometry) → disk_in img ≡ Present g
+    → (img : List ℕ) (g : Geometry) → disk_in img ≡ Some g
     → (calls : List Call) → Its calls c → Alone order.drive img calls c
     → HandedBy c (run_calls calls c) order transfer id g img (image_left order.drive img calls c)
     (taken_over calls c untaken)
@@ -176,7 +175,7 @@ abbrev pub HandedPlain : (Controller → Type 0) → Type 0
 HandedPlain From =
     (c : Controller) → From c → (order : Order) (transfer : Transfer) (id : Id) → Reads c order transfer id
     → transfer.sk ≡ false
-    → (img : List ℕ) (g : Geometry) → disk_in img ≡ Present g
+    → (img : List ℕ) (g : Geometry) → disk_in img ≡ Some g
     → (calls : List Call) → Its calls c → Alone order.drive img calls c
     → (k : ℕ) → k < length (taken_over calls c untaken).got
     → IsByte g (head_of order c) transfer (record { id = id; side = order.side }) img k

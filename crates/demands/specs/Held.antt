@@ -2,7 +2,7 @@
 -- its slot as it was (01 Image sound), the one just left, and what another write, whole or cut, or a change elsewhere
 -- leaves of one that holds it. A read leaves the image as it was (specs/HandedOver).
 -- Assumes nothing.
-use Rattle.std.specs.Prelude.{ℕ, ◌+◌, ◌*◌, ◌<◌, Bool, List, ◌≡◌, get_or}
+use Rattle.std.specs.Prelude.{ℕ, ◌+◌, ◌*◌, ◌<◌, Bool, List, ◌≡◌, get_or, Some}
 use Rattle.image.specs.declared.layout.Geometry.{Geometry}
 use Rattle.image.specs.Layout.{Has, InSlot}
 use Rattle.image.specs.Sound.{Sound}
@@ -30,7 +30,6 @@ use Rattle.demands.specs.Work.{Its, Alone, image_left}
 use Rattle.sectors.specs.declared.order.Order.{Order}
 use Rattle.sectors.specs.declared.order.Plan.{Plan}
 use Rattle.reached.specs.Runs.{Call}
-use Rattle.image.specs.declared.disk.Disk.TheVariants.{Present}
 use Rattle.image.specs.Disk.{disk_in}
 
 -- a sound one in which its slot is as it was
@@ -92,7 +91,7 @@ abbrev pub HeldByFormat : (Controller → Type 0) → Type 0
 HeldByFormat From =
     (w : Written From) (m : ℕ) → m < sectors_by w
     → (c : Controller) → From c → (order : Order) (plan : Plan) → Formats c order plan
-    → (old : List ℕ) → disk_in old ≡ Present w.g
+    → (old : List ℕ) → disk_in old ≡ Some w.g
     → (calls : List Call) → Its calls c → Alone order.drive old calls c
     → ((head_of order c ≡ cylinder_of w) × (order.side ≡ (aim_of w m).side) → ⊥)
     → HoldsNo w old m → HoldsNo w (image_left order.drive old calls c) m

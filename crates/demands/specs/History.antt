@@ -1,9 +1,9 @@
 -- What a write command has done by any of its calls: the bytes that the host handed over, the sectors finished, the one
 -- begun. All of it is a function of the list of calls: of their answers, and of the stores that the ticks made.
 -- Assumes nothing.
-use Rattle.std.specs.Prelude.{ℕ, Bool, true, false, ◌&&◌, ◌||◌, cond, List, [], ◌∷◌, ◌++◌, eqb}
-use Rattle.image.specs.declared.lent.Effect.{Effect}
-use Rattle.image.specs.declared.lent.Effect.TheVariants.{Nothing, Store}
+use Rattle.image.specs.Lent.{put_at}
+use Rattle.std.specs.Prelude.{ℕ, Bool, true, false, ◌&&◌, ◌||◌, cond, List, [], ◌∷◌, ◌++◌, eqb, None, Some}
+use Rattle.image.specs.Lent.{Effect}
 use Rattle.fdc.specs.declared.answer.Reply.{Reply}
 use Rattle.fdc.specs.declared.answer.Reply.TheVariants.{Done, Byte, Refused}
 use Rattle.fdc.specs.declared.record.Controller.{Controller}
@@ -45,8 +45,8 @@ stored_by at byte (some_of mark bytes) h =
     (record { host = h.host; told = h.told; finished = h.finished; begun = some_of mark (bytes ++ (byte ∷ [])) })
 
 abbrev pub noted_store : Effect → History → History
-noted_store Nothing h = h
-noted_store (Store at byte) h = stored_by at byte h.begun h
+noted_store None h = h
+noted_store (Some put) h = stored_by put.at put.byte h.begun h
 
 abbrev pub handed : ℕ → Bool → History → History
 handed byte tc h =

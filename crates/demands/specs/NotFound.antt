@@ -1,8 +1,7 @@
 -- A read or a write whose first sector is not on the track (01 Search): at the second pass, no ID met, ST1 01; else
 -- ST1 04, with ST2 10 if an ID had another C below FF and 02 if one had another C that is FF; both may stand.
 -- Assumes nothing.
-use Rattle.std.specs.Prelude.{ℕ, zero, suc, ◌+◌, ◌<◌, ◌≤◌, Bool, true, false, ◌&&◌, ◌||◌, not, cond, List, ◌≡◌, eqb, leb}
-use Rattle.image.specs.declared.disk.Disk.TheVariants.{Present}
+use Rattle.std.specs.Prelude.{ℕ, zero, suc, ◌+◌, ◌<◌, ◌≤◌, Bool, true, false, ◌&&◌, ◌||◌, not, cond, List, ◌≡◌, eqb, leb, Some}
 use Rattle.image.specs.declared.layout.Geometry.{Geometry}
 use Rattle.image.specs.declared.slot.Id.{Id}
 use Rattle.image.specs.Disk.{disk_in}
@@ -64,7 +63,7 @@ pub record Misses (order : Order) (id : Id) (met below ff : Bool) (e : Controlle
 abbrev pub NotFound : (Controller → Type 0) → Type 0
 NotFound From =
     (c : Controller) → From c → (order : Order) (transfer : Transfer) (id : Id) → Transfers c order transfer id
-    → (img : List ℕ) (g : Geometry) → disk_in img ≡ Present g
+    → (img : List ℕ) (g : Geometry) → disk_in img ≡ Some g
     → Missing g img (head_of order c) order.side transfer id
     → (calls : List Call) → Spins order.drive calls c → Alone order.drive img calls c
     → bound_of g ≤ tick_count calls

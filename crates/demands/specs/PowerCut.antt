@@ -2,13 +2,12 @@
 -- good mark, the one begun holds new bytes then old ones under the broken mark, every other byte is as it was, the
 -- other image untouched."
 -- Assumes nothing.
-use Rattle.std.specs.Prelude.{ℕ, zero, suc, ◌+◌, ◌*◌, ◌<◌, ◌≤◌, Bool, true, false, cond, List, [], ◌∷◌, ◌⊎◌, ◌≡◌, eqb, length, get_or}
+use Rattle.std.specs.Prelude.{ℕ, zero, suc, ◌+◌, ◌*◌, ◌<◌, ◌≤◌, Bool, true, false, cond, List, [], ◌∷◌, ◌⊎◌, ◌≡◌, eqb, length, get_or, Some}
 use Rattle.chip.specs.Next.{advanced_of}
 use Rattle.sectors.specs.declared.order.Job.TheVariants.{Move}
 use Rattle.sectors.specs.declared.order.Order.{Order}
 use Rattle.sectors.specs.declared.order.Pass.TheVariants.{Write}
 use Rattle.sectors.specs.declared.order.Transfer.{Transfer}
-use Rattle.image.specs.declared.disk.Disk.TheVariants.{Present}
 use Rattle.image.specs.declared.layout.Geometry.{Geometry}
 use Rattle.image.specs.declared.mark.Mark.TheVariants.{Data}
 use Rattle.image.specs.declared.slot.Id.{Id}
@@ -169,7 +168,7 @@ head_of order c = (drive_at order.drive c.drives).head
 abbrev pub PowerCut : (Controller → Type 0) → Type 0
 PowerCut From =
     (c : Controller) → From c → (order : Order) (transfer : Transfer) (id : Id) → Writes c order transfer id
-    → (old : List ℕ) (g : Geometry) → disk_in old ≡ Present g
+    → (old : List ℕ) (g : Geometry) → disk_in old ≡ Some g
     → (calls : List Call) → Its calls c → Alone order.drive old calls c
     → LeftBy g (head_of order c) transfer (record { id = id; side = order.side }) old
     (image_left order.drive old calls c) (history_of calls c no_history)

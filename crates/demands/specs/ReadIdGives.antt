@@ -1,8 +1,7 @@
 -- What a Read ID gives (01 Read ID): the address of the track's first ID, from slot 0; where there is none, ST1 01 and
 -- zeros. Without it a box whose Read ID always fails would meet all that is said of its ends.
 -- Assumes nothing.
-use Rattle.std.specs.Prelude.{ℕ, ◌<◌, ◌≤◌, Bool, true, false, List, ◌≡◌}
-use Rattle.image.specs.declared.disk.Disk.TheVariants.{Present}
+use Rattle.std.specs.Prelude.{ℕ, ◌<◌, ◌≤◌, Bool, true, false, List, ◌≡◌, Some}
 use Rattle.image.specs.declared.layout.Geometry.{Geometry}
 use Rattle.image.specs.declared.slot.Id.{Id}
 use Rattle.image.specs.Disk.{disk_in}
@@ -51,7 +50,7 @@ pub record Gives (order : Order) (normal : Bool) (st1 : ℕ) (id : Id) (e : Cont
 abbrev pub ReadIdGives : (Controller → Type 0) → Type 0
 ReadIdGives From =
     (c : Controller) → From c → (order : Order) → Identifies c order
-    → (img : List ℕ) (g : Geometry) → disk_in img ≡ Present g
+    → (img : List ℕ) (g : Geometry) → disk_in img ≡ Some g
     → (k : ℕ) → FirstId g img (head_of order c) order.side k
     → (calls : List Call) → Spins order.drive calls c → Alone order.drive img calls c
     → bound_of g ≤ tick_count calls
@@ -60,7 +59,7 @@ ReadIdGives From =
 abbrev pub ReadIdNone : (Controller → Type 0) → Type 0
 ReadIdNone From =
     (c : Controller) → From c → (order : Order) → Identifies c order
-    → (img : List ℕ) (g : Geometry) → disk_in img ≡ Present g → NoIdThere g img (head_of order c) order.side
+    → (img : List ℕ) (g : Geometry) → disk_in img ≡ Some g → NoIdThere g img (head_of order c) order.side
     → (calls : List Call) → Spins order.drive calls c → Alone order.drive img calls c
     → bound_of g ≤ tick_count calls
     → EndsWith (Gives order false 0x01 (record { c = 0; h = 0; r = 0; n = 0 })) calls c

@@ -1,10 +1,9 @@
 -- A read that is served promptly on a good disk ends with success (01 Read, Next, Result). Without it a box in which
 -- every command ends at once with an error would meet all that is said of a read.
 -- Assumes nothing.
-use Rattle.std.specs.Prelude.{ℕ, ◌<◌, ◌≤◌, true, false, List, [], ◌∷◌, ◌↔◌, ◌≡◌, length}
+use Rattle.std.specs.Prelude.{ℕ, ◌<◌, ◌≤◌, true, false, List, [], ◌∷◌, ◌↔◌, ◌≡◌, length, Some}
 use Rattle.sectors.specs.declared.order.Order.{Order}
 use Rattle.sectors.specs.declared.order.Transfer.{Transfer}
-use Rattle.image.specs.declared.disk.Disk.TheVariants.{Present}
 use Rattle.image.specs.declared.layout.Geometry.{Geometry}
 use Rattle.image.specs.declared.slot.Id.{Id}
 use Rattle.image.specs.Disk.{disk_in}
@@ -91,5 +90,5 @@ ReadServable From =
     (c : Controller) → From c → (order : Order) (transfer : Transfer) (id : Id) → Reads c order transfer id
     → motor_in c.registers.dor order.drive ≡ true → gate_in c.registers.dor ≡ true
     → dma_in c.registers.spec2 ≡ true
-    → (a b : List ℕ) (g : Geometry) → disk_in (pick_of order.drive a b) ≡ Present g
+    → (a b : List ℕ) (g : Geometry) → disk_in (pick_of order.drive a b) ≡ Some g
     → (L k : ℕ) → 0 < L → Serves order.drive L k (pick_of order.drive a b) c untaken

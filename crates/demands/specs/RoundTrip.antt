@@ -2,10 +2,9 @@
 -- byte, from any record reached since, out of either drive, as long as the image holds those sectors. Which images
 -- hold them is in Held; how much a read hands over, and what its result says, is in HandedOver.
 -- Assumes nothing.
-use Rattle.std.specs.Prelude.{ℕ, ◌+◌, ◌*◌, ◌/◌, ◌%◌, ◌<◌, ◌≤◌, Bool, true, false, cond, List, [], ◌∷◌, ◌⊎◌, ◌≡◌, eqb, length, get_or}
+use Rattle.std.specs.Prelude.{ℕ, ◌+◌, ◌*◌, ◌/◌, ◌%◌, ◌<◌, ◌≤◌, Bool, true, false, cond, List, [], ◌∷◌, ◌⊎◌, ◌≡◌, eqb, length, get_or, Some}
 use Rattle.sectors.specs.declared.order.Order.{Order}
 use Rattle.sectors.specs.declared.order.Transfer.{Transfer}
-use Rattle.image.specs.declared.disk.Disk.TheVariants.{Present}
 use Rattle.image.specs.declared.layout.Geometry.{Geometry}
 use Rattle.image.specs.declared.slot.Id.{Id}
 use Rattle.image.specs.Disk.{disk_in}
@@ -36,7 +35,7 @@ pub record Written (From : Controller → Type 0) : Type 0 where
   pub accepted : Writes c order transfer id
   pub old : List ℕ
   pub g : Geometry
-  pub disk : disk_in old ≡ Present g
+  pub disk : disk_in old ≡ Some g
   pub calls : List Call
   pub its : Its calls c
   pub alone : Alone order.drive old calls c
@@ -50,7 +49,7 @@ pub record ReadBack (From : Controller → Type 0) (img : List ℕ) (g : Geometr
   pub id : Id
   pub accepted : Reads c order transfer id
   pub protect : Bool
-  pub disk : disk_in img ≡ Present (with_protect protect g)
+  pub disk : disk_in img ≡ Some (with_protect protect g)
   pub calls : List Call
   pub its : Its calls c
   pub alone : Alone order.drive img calls c

@@ -1,9 +1,8 @@
 -- The short save (02 2026-02): a host that stops in mid-sector. Once a byte is missing no other one passes and the
 -- sector in hand is the command's last; only a cut, a reset, a pulled disk or the motor off leaves a sector broken.
 -- Assumes nothing.
-use Rattle.std.specs.Prelude.{ℕ, true, false, List, [], ◌∷◌, ◌⊎◌, ◌≡◌}
-use Rattle.image.specs.declared.disk.Disk.{Disk}
-use Rattle.image.specs.declared.disk.Disk.TheVariants.{Absent, Present}
+use Rattle.std.specs.Prelude.{ℕ, true, false, List, [], ◌∷◌, ◌⊎◌, ◌≡◌, None, Some}
+use Rattle.image.specs.Disk.{Disk}
 use Rattle.image.specs.declared.layout.Geometry.{Geometry}
 use Rattle.image.specs.declared.slot.Id.{Id}
 use Rattle.image.specs.Disk.{disk_in}
@@ -31,7 +30,7 @@ pub record NoneFollows (h later : History) : Type 0 where
 abbrev pub ShortIsLast : (Controller → Type 0) → Type 0
 ShortIsLast From =
     (c : Controller) → From c → (order : Order) (transfer : Transfer) (id : Id) → Writes c order transfer id
-    → (old : List ℕ) (g : Geometry) → disk_in old ≡ Present g
+    → (old : List ℕ) (g : Geometry) → disk_in old ≡ Some g
     → (calls : List Call) → Its calls c → Alone order.drive old calls c
     → Missing g (history_of calls c no_history)
     → (more : List Call) → Its more (run_calls calls c)
@@ -54,18 +53,18 @@ saw_of drive (call ∷ calls) c saw = saw_of drive calls (after call c) (saw_by 
 
 -- what the last tick saw, and what the first one met
 abbrev pub last_seen : List Disk → Disk
-last_seen [] = Absent
+last_seen [] = None
 last_seen (d ∷ saw) = d
 
 abbrev pub met_in : List Disk → Disk
-met_in [] = Absent
+met_in [] = None
 met_in (d ∷ []) = d
 met_in (d ∷ e ∷ saw) = met_in (e ∷ saw)
 
 -- no disk, or one with another header
 pub data NotThatDisk (met last : Disk) : Type 0 where
-  no_disk : last ≡ Absent → NotThatDisk met last
-  another : (g g' : Geometry) → met ≡ Present g → last ≡ Present g' → (g' ≡ g → ⊥) → NotThatDisk met last
+  no_disk : last ≡ None → NotThatDisk met last
+  another : (g g' : Geometry) → met ≡ Some g → last ≡ Some g' → (g' ≡ g → ⊥) → NotThatDisk met last
 
 -- the result waits with INT on: ST1 01, or 11 where a byte was missing; its last tick saw no disk or another header
 pub record Pulled (e : Controller) (saw : List Disk) : Type 0 where

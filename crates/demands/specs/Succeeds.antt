@@ -1,11 +1,10 @@
 -- A write that is served promptly on a good disk ends with success, and without TC at EOT (01 Next, Result). This
 -- shuts out a box whose commands all end at once with an error.
 -- Assumes nothing.
-use Rattle.std.specs.Prelude.{ℕ, suc, ◌+◌, ◌*◌, ◌<◌, ◌≤◌, Bool, true, false, cond, List, [], ◌∷◌, ◌↔◌, ◌≡◌, length}
+use Rattle.std.specs.Prelude.{ℕ, suc, ◌+◌, ◌*◌, ◌<◌, ◌≤◌, Bool, true, false, cond, List, [], ◌∷◌, ◌↔◌, ◌≡◌, length, Some}
 use Rattle.sectors.specs.declared.order.Order.{Order}
 use Rattle.sectors.specs.declared.order.Transfer.{Transfer}
 use Rattle.sectors.specs.Result.{st0_of}
-use Rattle.image.specs.declared.disk.Disk.TheVariants.{Present}
 use Rattle.image.specs.declared.layout.Geometry.{Geometry}
 use Rattle.image.specs.declared.slot.Id.{Id}
 use Rattle.image.specs.Disk.{disk_in}
@@ -23,7 +22,7 @@ use Rattle.demands.specs.Work.{at_work, Alone, EndsWith}
 
 -- a disk with that header, not protected
 pub record Writable (g : Geometry) (img : List ℕ) : Type 0 where
-  pub present : disk_in img ≡ Present g
+  pub present : disk_in img ≡ Some g
   pub unprotected : g.protect ≡ false
 
 -- a sector of the command is on the track under the head, on its side

@@ -1,3 +1,4 @@
+pub mod Course
 pub mod Drive
 pub mod Due
 pub mod Examples

@@ -2,14 +2,13 @@
 // Recalibrate going on. It knows nothing of ports, commands and images.
 #![tactic(auto)]
 
-ghost use Rattle.std.specs.Prelude.{◌≡◌, cond, ◌-◌, ◌≤◌};
+ghost use Rattle.std.specs.Prelude.{◌≡◌};
 ghost use Rattle.drive.specs.Drive.{
   fresh_drive,
   reset_drive,
   reported_of,
   sensed_drive,
   noted_of,
-  distance,
   first_wait,
   seek_of,
   accepted,
@@ -25,84 +24,130 @@ ghost use Rattle.drive.specs.Step.{
   stepped,
   sought,
   recalibrated,
-  seek_step,
-  recalibrate_step,
-  seek_tick,
-  recalibrate_tick,
-  tick_in,
   tick_drive,
 };
+ghost use Rattle.drive.specs.Course.{going, over, goes_in, course_step, course_tick};
 
 // A Seek or Recalibrate going on: the steps still due, and the ticks until the next one, or until the end if none
 // is due.
-#[derive(Clone, Copy)]
+#[derive(Clone, Copy, Debug, PartialEq, Eq)]
 pub enum Motion {
     Still,
     Seeking { target: u8, steps: u8, wait: u16 },
     Recalibrating { steps: u8, wait: u16 },
 }
 
-#[derive(Clone, Copy)]
+impl Motion {
+    // 01 Refusals 4: the step countdown.
+    fn wait(self) -> u16
+        ensures { result ≡ countdown_of self }
+    {
+        match self {
+            Motion::Still => 0,
+            Motion::Seeking { wait, .. } | Motion::Recalibrating { wait, .. } => wait,
+        }
+    }
+
+    // No Seek or Recalibrate is going on.
+    fn is_still(self) -> bool
+        ensures { result ≡ stands_in self }
+    {
+        matches!(self, Motion::Still)
+    }
+}
+
+#[derive(Clone, Copy, Debug, PartialEq, Eq)]
 pub struct Drive {
     // Where the head stands. PCN is where the controller takes it to be (01 Easy 3).
     pub head: u8,
     pub pcn: u8,
     pub changed: bool,
     pub busy: bool,
-    // The report for Sense Interrupt, 0 where none is pending.
+    // The report for Sense Interrupt, 0 where none is pending. No Option: `reported_of` sets any number, `sensed_drive`
+    // leaves 0, and a Some(0) would come back from its byte as None (pack's `read_back`).
     pub report: u8,
     pub motion: Motion,
 }
 
-fn one_less(n: u8) -> u8
-    ensures { result ≡ n - 1 }
-{
-    if 0 < n { n - 1 } else { 0 }
+// What a tick tells a drive: its number, whether an image is mounted in it, and the ticks of a step.
+#[derive(Clone, Copy)]
+struct Tick {
+    number: u8,
+    mounted: bool,
+    ticks: u16,
 }
 
-// Steps from one cylinder number to another.
-fn apart(a: u8, b: u8) -> u8
-    ensures { result ≡ distance a b }
-{
-    let up = a < b;
-    if up { b - a } else { a - b }
+// All that a Seek and a Recalibrate differ in.
+#[derive(Clone, Copy)]
+enum Course {
+    To(u8),
+    Out,
+}
+
+impl Course {
+    fn motion(self, steps: u8, wait: u16) -> Motion
+        ensures { result ≡ going self steps wait }
+    {
+        match self {
+            Course::To(target) => Motion::Seeking {
+                target,
+                steps,
+                wait,
+            },
+            Course::Out => Motion::Recalibrating { steps, wait },
+        }
+    }
+
+    fn goes_in(self, pcn: u8) -> bool
+        ensures { result ≡ goes_in self pcn }
+    {
+        match self {
+            Course::To(target) => pcn < target,
+            Course::Out => false,
+        }
+    }
+
+    fn end(self, d: Drive, number: u8) -> Drive
+        ensures { result ≡ over self number d }
+    {
+        match self {
+            Course::To(target) => d.sought(number, target),
+            Course::Out => d.recalibrated(number),
+        }
+    }
 }
 
 // No steps due: done at the next tick.
 fn first_wait(steps: u8, ticks: u16) -> u16
     ensures { result ≡ first_wait steps ticks }
 {
-    let none = steps == 0;
-    if none { 1 } else { ticks }
+    if steps == 0 { 1 } else { ticks }
 }
 
 // Out until the head is at 0, at most 79 times; drives 2 and 3 never see track 0.
 fn recalibrate_steps(number: u8, head: u8) -> u8
     ensures { result ≡ recalibrate_steps number head }
 {
-    let short = (number < 2) & (head < 79);
-    if short { head } else { 79 }
+    if number < 2 { head.min(79) } else { 79 }
 }
 
-// The head stops at 0 and 81.
+// The head stops at 0 and 81. A head above 81, where no call leads, stays: min would move it.
 fn step_in(head: u8) -> u8
     ensures { result ≡ inward head }
 {
-    let room = head < 81;
-    if room { head + 1 } else { head }
+    if head < 81 { head + 1 } else { head }
 }
 
 fn head_after(number: u8, goes_in: bool, head: u8) -> u8
     ensures { result ≡ moved number goes_in head }
 {
-    let none = 2 <= number;
-    if none {
+    if 2 <= number {
         return head;
     }
     if goes_in {
         return step_in(head);
     }
-    one_less(head)
+    head.saturating_sub(1)
 }
 
 impl Drive {
@@ -130,63 +175,50 @@ impl Drive {
         ensures { result ≡ reset_drive self }
     {
         Drive {
-            head: self.head,
-            pcn: Drive::PCN,
             changed: self.changed,
-            busy: false,
-            report: 0,
-            motion: Motion::Still,
+            ..Drive::new(self.head)
         }
     }
 
     pub fn reported(self, report: u8) -> Drive
         ensures { result ≡ reported_of report self }
     {
-        let mut d = self;
-        d.report = report;
-        d
+        Drive { report, ..self }
     }
 
     pub fn sensed(self) -> Drive
         ensures { result ≡ sensed_drive self }
     {
-        let mut d = self;
-        d.report = 0;
-        d.busy = false;
-        d
+        Drive {
+            report: 0,
+            busy: false,
+            ..self
+        }
     }
 
     pub fn noted(self) -> Drive
         ensures { result ≡ noted_of self }
     {
-        let mut d = self;
-        d.changed = true;
-        d
+        Drive {
+            changed: true,
+            ..self
+        }
     }
 
     fn moving(self, motion: Motion) -> Drive
         ensures { result ≡ moving motion self }
     {
-        Drive {
-            head: self.head,
-            pcn: self.pcn,
-            changed: self.changed,
-            busy: self.busy,
-            report: self.report,
-            motion,
-        }
+        Drive { motion, ..self }
     }
 
     fn accepted(self, motion: Motion) -> Drive
         ensures { result ≡ accepted motion self }
     {
         Drive {
-            head: self.head,
-            pcn: self.pcn,
-            changed: self.changed,
             busy: true,
             report: 0,
             motion,
+            ..self
         }
     }
 
@@ -194,13 +226,9 @@ impl Drive {
     pub fn seek(self, target: u8, ticks: u16) -> Drive
         ensures { result ≡ seek_of target ticks self }
     {
-        let steps = apart(self.pcn, target);
+        let steps = self.pcn.abs_diff(target);
         let wait = first_wait(steps, ticks);
-        self.accepted(Motion::Seeking {
-            target,
-            steps,
-            wait,
-        })
+        self.accepted(Course::To(target).motion(steps, wait))
     }
 
     pub fn recalibrate(self, number: u8, ticks: u16) -> Drive
@@ -208,23 +236,17 @@ impl Drive {
     {
         let steps = recalibrate_steps(number, self.head);
         let wait = first_wait(steps, ticks);
-        self.accepted(Motion::Recalibrating { steps, wait })
+        self.accepted(Course::Out.motion(steps, wait))
     }
 
     #[tactic(auto, unfolding(crate::specs::Step::stepped))]
-    fn stepped(self, number: u8, mounted: bool, goes_in: bool) -> Drive
-        ensures { result ≡ stepped number mounted goes_in self }
+    fn stepped(self, at: Tick, goes_in: bool) -> Drive
+        ensures { result ≡ stepped at.number at.mounted goes_in self }
     {
-        let head = head_after(number, goes_in, self.head);
-        let changed = self.changed & !mounted;
-        let motion = self.motion;
         Drive {
-            head,
-            pcn: self.pcn,
-            changed,
-            busy: self.busy,
-            report: self.report,
-            motion,
+            head: head_after(at.number, goes_in, self.head),
+            changed: self.changed & !at.mounted,
+            ..self
         }
     }
 
@@ -233,12 +255,10 @@ impl Drive {
         ensures { result ≡ sought number target self }
     {
         Drive {
-            head: self.head,
             pcn: target,
-            changed: self.changed,
-            busy: self.busy,
             report: 0x20 + number % 4,
             motion: Motion::Still,
+            ..self
         }
     }
 
@@ -247,168 +267,71 @@ impl Drive {
         ensures { result ≡ recalibrated number self }
     {
         let zero = (number < 2) & (self.head == 0);
+        let arrival = if zero { 0x20 } else { 0x70 };
         Drive {
-            head: self.head,
             pcn: 0,
-            changed: self.changed,
-            busy: self.busy,
-            report: arrival(zero) + number % 4,
+            report: arrival + number % 4,
             motion: Motion::Still,
+            ..self
         }
     }
 
-    #[tactic(auto, unfolding(crate::specs::Step::seek_step))]
-    fn seek_step(self, number: u8, mounted: bool, ticks: u16, target: u8, steps: u8) -> Drive
-        ensures { result ≡ seek_step number mounted ticks target steps self }
+    // A step, after which T ticks lead to the next one; the last one ends it.
+    fn step(self, course: Course, at: Tick, steps: u8) -> Drive
+        ensures { result ≡ course_step course at.number at.mounted at.ticks steps self }
     {
-        let d = self.stepped(number, mounted, self.pcn < target);
-        let last = steps <= 1;
-        if last {
-            return d.sought(number, target);
+        let d = self.stepped(at, course.goes_in(self.pcn));
+        if steps <= 1 {
+            return course.end(d, at.number);
         }
-        let left = one_less(steps);
-        d.moving(Motion::Seeking {
-            target,
-            steps: left,
-            wait: ticks,
-        })
+        d.moving(course.motion(steps - 1, at.ticks))
     }
 
-    #[tactic(auto, unfolding(crate::specs::Step::recalibrate_step))]
-    fn recalibrate_step(self, number: u8, mounted: bool, ticks: u16, steps: u8) -> Drive
-        ensures { result ≡ recalibrate_step number mounted ticks steps self }
+    // A tick of waiting, or the step that is due, or the end where none was.
+    fn go_on(self, course: Course, at: Tick, steps: u8, wait: u16) -> Drive
+        ensures { result ≡ course_tick course at.number at.mounted at.ticks steps wait self }
     {
-        let d = self.stepped(number, mounted, false);
-        let last = steps <= 1;
-        if last {
-            return d.recalibrated(number);
+        if 1 < wait {
+            return self.moving(course.motion(steps, wait - 1));
         }
-        let left = one_less(steps);
-        d.moving(Motion::Recalibrating {
-            steps: left,
-            wait: ticks,
-        })
+        if steps == 0 {
+            return course.end(self, at.number);
+        }
+        self.step(course, at, steps)
     }
 
-    #[tactic(auto, unfolding(crate::specs::Step::seek_tick, crate::specs::Step::seek_step))]
-    fn seek_tick(
-        self,
-        number: u8,
-        mounted: bool,
-        ticks: u16,
-        target: u8,
-        steps: u8,
-        wait: u16,
-    ) -> Drive
-        ensures { result ≡ seek_tick number mounted ticks target steps wait self }
+    // A tick of drive `number`, mounted or not, with `ticks` for a step.
+    #[tactic(auto, unfolding(crate::specs::Step::tick_drive, crate::specs::Step::tick_in, crate::specs::Step::seek_tick, crate::specs::Step::recalibrate_tick))]
+    pub fn tick(self, number: u8, mounted: bool, ticks: u16) -> Drive
+        ensures { result ≡ tick_drive number mounted ticks self }
     {
-        let waits = 1 < wait;
-        if waits {
-            return self.moving(Motion::Seeking {
-                target,
-                steps,
-                wait: wait - 1,
-            });
-        }
-        let none = steps == 0;
-        if none {
-            return self.sought(number, target);
-        }
-        self.seek_step(number, mounted, ticks, target, steps)
-    }
-
-    #[tactic(auto, unfolding(crate::specs::Step::recalibrate_tick, crate::specs::Step::recalibrate_step))]
-    fn recalibrate_tick(self, number: u8, mounted: bool, ticks: u16, steps: u8, wait: u16) -> Drive
-        ensures { result ≡ recalibrate_tick number mounted ticks steps wait self }
-    {
-        let waits = 1 < wait;
-        if waits {
-            return self.moving(Motion::Recalibrating {
-                steps,
-                wait: wait - 1,
-            });
-        }
-        let none = steps == 0;
-        if none {
-            return self.recalibrated(number);
-        }
-        self.recalibrate_step(number, mounted, ticks, steps)
-    }
-
-    #[tactic(auto, unfolding(crate::specs::Step::tick_in))]
-    fn tick_in(self, motion: Motion, number: u8, mounted: bool, ticks: u16) -> Drive
-        ensures { result ≡ tick_in motion number mounted ticks self }
-    {
-        match motion {
+        let at = Tick {
+            number,
+            mounted,
+            ticks,
+        };
+        match self.motion {
             Motion::Still => self,
             Motion::Seeking {
                 target,
                 steps,
                 wait,
-            } => self.seek_tick(number, mounted, ticks, target, steps, wait),
-            Motion::Recalibrating { steps, wait } => self.recalibrate_tick(
-                number, mounted, ticks, steps, wait,
-            ),
+            } => self.go_on(Course::To(target), at, steps, wait),
+            Motion::Recalibrating { steps, wait } => self.go_on(Course::Out, at, steps, wait),
         }
-    }
-
-    // A tick of drive `number`, mounted or not, with `ticks` for a step.
-    #[tactic(auto, unfolding(crate::specs::Step::tick_drive))]
-    pub fn tick(self, number: u8, mounted: bool, ticks: u16) -> Drive
-        ensures { result ≡ tick_drive number mounted ticks self }
-    {
-        let motion = self.motion;
-        self.tick_in(motion, number, mounted, ticks)
     }
 
     // 01 Refusals 4: the step countdown.
     pub fn countdown(self) -> u16
         ensures { result ≡ countdown_of self.motion }
     {
-        let motion = self.motion;
-        motion_wait(motion)
+        self.motion.wait()
     }
 
     // No Seek or Recalibrate is going on.
     pub fn stands(self) -> bool
         ensures { result ≡ stands_in self.motion }
     {
-        let motion = self.motion;
-        motion_stands(motion)
-    }
-}
-
-fn arrival(zero: bool) -> u8
-    ensures value { result ≡ cond zero 0x20 0x70 }
-    ensures upper_bound { result ≤ 112 }
-{
-    if zero { 0x20 } else { 0x70 }
-}
-
-fn motion_wait(motion: Motion) -> u16
-    ensures { result ≡ countdown_of motion }
-{
-    match motion {
-        Motion::Still => 0,
-        Motion::Seeking {
-            target: _,
-            steps: _,
-            wait,
-        } => wait,
-        Motion::Recalibrating { steps: _, wait } => wait,
-    }
-}
-
-fn motion_stands(motion: Motion) -> bool
-    ensures { result ≡ stands_in motion }
-{
-    match motion {
-        Motion::Still => true,
-        Motion::Seeking {
-            target: _,
-            steps: _,
-            wait: _,
-        } => false,
-        Motion::Recalibrating { steps: _, wait: _ } => false,
+        self.motion.is_still()
     }
 }

@@ -1,6 +1,7 @@
 -- What document 01 says is easy to get wrong, of the definitions: R is advanced once, no end without TC is normal,
 -- and the good mark is stored after the last byte.
 -- Assumes nothing.
+use Rattle.std.specs.Prelude.{None, Some}
 use Prim.Native.Nat.{ℕ, ◌<◌}
 use native.Mathlib.Omega.{arith}
 use mathlib.Core.Bool.{Bool, true}
@@ -8,8 +9,7 @@ use mathlib.Core.Path.{◌≡◌, refl, ap, ◌∙◌}
 use lib.Dec.{eqb}
 use borrow.Author.Tests.{lt-leb}
 use Rattle.image.proofs.TestLaws.{by_test}
-use Rattle.image.specs.declared.lent.Effect.{Effect}
-use Rattle.image.specs.declared.lent.Effect.TheVariants.{Nothing, Store}
+use Rattle.image.specs.Lent.{Effect}
 use Rattle.image.specs.declared.slot.Id.{Id}
 use Rattle.chip.specs.declared.fifo.Fifo.{Fifo}
 use Rattle.chip.specs.declared.next.Next.{Next}
@@ -80,8 +80,8 @@ module _ (slot : ℕ) (site : Site) (task : Task) (fifo : Fifo) (effect : Effect
 
 -- where an effect stores, or that place
 abbrev place_or : ℕ → Effect → ℕ
-place_or at Nothing = at
-place_or at (Store place byte) = place
+place_or at None = at
+place_or at (Some put) = put.at
 
 -- 01 Easy 4: before the last byte is stored, a tick of a Write stores that byte and no mark
 module _ (slot done : ℕ) (site : Site) (task : Task) (head : ℕ) (fifo : Fifo) (efifo : Bool) (fifothr : ℕ) where

@@ -1,7 +1,8 @@
 -- Laws of Format (01 Format): its address, and what a slot is laid down with.
 -- Assumes nothing.
 use Prim.Native.Nat.{ℕ, ◌<◌, ◌≤◌}
-use mathlib.Core.Bool.{Bool, false}
+use mathlib.Core.Bool.{Bool}
+use Rattle.std.specs.Prelude.{Some}
 use mathlib.Core.Path.{◌≡◌, refl}
 use borrow.Author.Tests.{lt-ltb, le-ltb}
 use Rattle.chip.specs.declared.fifo.Fifo.{Fifo}
@@ -18,7 +19,5 @@ module _ (plan : Plan) (drive head side done : ℕ) where
 
 -- 01 Format: B times D, and no byte of the host's is asked for
 pub laid_fill : (plan : Plan) (fifo : Fifo) (efifo : Bool) (fifothr : ℕ)
-    → ((laid_of plan fifo efifo fifothr).missing ≡ false)
-    × ((laid_of plan fifo efifo fifothr).byte ≡ plan.fill)
-    × ((laid_of plan fifo efifo fifothr).fifo ≡ fifo)
-laid_fill plan fifo efifo fifothr = (refl, refl, refl)
+    → laid_of plan fifo efifo fifothr ≡ Some (record { byte = plan.fill; fifo = fifo })
+laid_fill plan fifo efifo fifothr = refl

@@ -1,6 +1,7 @@
 -- What a tick of a command keeps to (specs/Kept): of each definition, then of `begin_of` and `go_on_of`, for any record
 -- at all.
 -- Assumes nothing.
+use Rattle.std.specs.Prelude.{None, Result, Ok, Err}
 use Prim.Native.Nat.{ℕ, ◌+◌, ◌≤◌}
 use native.Mathlib.Omega.{arith}
 use mathlib.Core.Bool.{Bool, true, false, ◌&&◌, not, true≢false, false≢true}
@@ -9,20 +10,19 @@ use mathlib.Core.Path.{◌≡◌, refl, sym, ap, ◌∙◌}
 use lib.Dec.{eqb, leb, ltb}
 use borrow.Author.Tests.{leb-false}
 use Rattle.image.proofs.TestLaws.{by_test}
-use Rattle.image.specs.declared.disk.Disk.{Disk}
-use Rattle.image.specs.declared.lent.Effect.{Effect}
-use Rattle.image.specs.declared.lent.Effect.TheVariants.{Nothing}
+use Rattle.image.specs.Disk.{Disk}
+use Rattle.image.specs.Lent.{Effect}
 use Rattle.image.specs.declared.mark.Mark.{Mark}
 use Rattle.image.specs.declared.mark.Mark.TheVariants.{NoId, Data, NoData}
 use Rattle.image.specs.declared.slot.Id.{Id}
+use Rattle.image.specs.declared.layout.Geometry.{Geometry}
 use Rattle.image.specs.Layout.{offset_of, track_at}
 use Rattle.chip.specs.declared.fifo.Fifo.{Fifo}
 use Rattle.chip.specs.declared.next.Next.{Next}
 use Rattle.chip.specs.declared.next.Next.TheVariants.{Ended, PastEot, OtherSide, SameSide}
 use Rattle.chip.specs.Fifo.{FitsFifo, emptied, full_of, opened_of, shut}
 use Rattle.chip.proofs.FifoLaws.{fits_emptied, fits_filled, fits_drawn, fits_opened, fits_shut}
-use Rattle.engine.specs.declared.first.Gate.{Gate}
-use Rattle.engine.specs.declared.first.Gate.TheVariants.{Shut, Open}
+use Rattle.engine.specs.declared.first.Fault.{Fault}
 use Rattle.engine.specs.declared.flow.Flow.{Flow}
 use Rattle.engine.specs.declared.flow.Flow.TheVariants.{Quiet, FromHost}
 use Rattle.sectors.specs.declared.order.Job.{Job}
@@ -59,7 +59,7 @@ use Rattle.sectors.specs.Track.{has_track, stays_of, sector_bytes, data_place, m
 use Rattle.sectors.specs.Write.{underrun, await_of, put_of, dry_of, written_of, store_of}
 
 -- a pass from the host may store
-may_store : (p : Pass) (e : Effect) → pass_writes p ≡ true → from_host (pass_flow p) ≡ false → e ≡ Nothing
+may_store : (p : Pass) (e : Effect) → pass_writes p ≡ true → from_host (pass_flow p) ≡ false → e ≡ None
 may_store Read e w h = absurd (false≢true w)
 may_store Write e w h = absurd (true≢false h)
 
@@ -80,7 +80,7 @@ module _ (efifo : Bool) (f : Fifo) (ok : Bool) where
   Formed site s = Kept efifo f ok FromHost site.drive s
 
   end_kept : (flow : Flow) (at : ℕ) (normal : Bool) (drive side st1 st2 : ℕ) (id : Id) (effect : Effect)
-      → (ok ≡ true → from_host flow ≡ false → effect ≡ Nothing)
+      → (ok ≡ true → from_host flow ≡ false → effect ≡ None)
       → 13 ≤ store_place effect
       → Kept efifo f ok flow at (end_of normal drive side st1 st2 id effect)
   unfolding end_of
@@ -97,7 +97,7 @@ module _ (efifo : Bool) (f : Fifo) (ok : Bool) where
 
   module _ (site : Site) (task : Task) where
     move_end_kept : (normal : Bool) (st1 st2 : ℕ) (id : Id) (effect : Effect)
-        → (ok ≡ true → from_host (pass_flow task.transfer.pass) ≡ false → effect ≡ Nothing)
+        → (ok ≡ true → from_host (pass_flow task.transfer.pass) ≡ false → effect ≡ None)
         → 13 ≤ store_place effect
         → Moved site task (move_end normal st1 st2 id effect site task)
     unfolding move_end
@@ -105,11 +105,11 @@ module _ (efifo : Bool) (f : Fifo) (ok : Bool) where
 
     fails_kept : (st1 st2 : ℕ) → Moved site task (move_fails st1 st2 site task)
     unfolding move_fails
-    fails_kept st1 st2 = move_end_kept false st1 st2 task.id Nothing (λ o h. refl) (omega arith)
+    fails_kept st1 st2 = move_end_kept false st1 st2 task.id None (λ o h. refl) (omega arith)
 
     -- 02 2026-02
     late_end_kept : (effect : Effect)
-        → (ok ≡ true → from_host (pass_flow task.transfer.pass) ≡ false → effect ≡ Nothing)
+        → (ok ≡ true → from_host (pass_flow task.transfer.pass) ≡ false → effect ≡ None)
         → 13 ≤ store_place effect
         → Moved site task (late_end effect site task)
     unfolding late_end move_end
@@ -119,7 +119,7 @@ module _ (efifo : Bool) (f : Fifo) (ok : Bool) where
         → stage_wait stage ≤ 63
         → (ok ≡ true → suits task.transfer.pass stage ≡ true)
         → (FitsFifo efifo f → FitsFifo efifo fifo)
-        → (ok ≡ true → from_host (pass_flow task.transfer.pass) ≡ false → effect ≡ Nothing)
+        → (ok ≡ true → from_host (pass_flow task.transfer.pass) ≡ false → effect ≡ None)
         → 13 ≤ store_place effect
         → Moved site task (moves_of stage site task fifo effect)
     moves_kept stage fifo effect w s p h b = record {
@@ -136,7 +136,7 @@ module _ (efifo : Bool) (f : Fifo) (ok : Bool) where
     -- 01 Next
     followed_kept : (n : Next) (slot : ℕ) (fifo : Fifo) (effect : Effect)
         → (FitsFifo efifo f → FitsFifo efifo fifo)
-        → (ok ≡ true → from_host (pass_flow task.transfer.pass) ≡ false → effect ≡ Nothing)
+        → (ok ≡ true → from_host (pass_flow task.transfer.pass) ≡ false → effect ≡ None)
         → 13 ≤ store_place effect
         → Moved site task (followed_of n slot site task fifo effect)
     unfolding followed_of
@@ -165,7 +165,7 @@ module _ (efifo : Bool) (f : Fifo) (ok : Bool) where
 
     follow_kept : (slot : ℕ) (tc : Bool) (fifo : Fifo) (effect : Effect)
         → (FitsFifo efifo f → FitsFifo efifo fifo)
-        → (ok ≡ true → from_host (pass_flow task.transfer.pass) ≡ false → effect ≡ Nothing)
+        → (ok ≡ true → from_host (pass_flow task.transfer.pass) ≡ false → effect ≡ None)
         → 13 ≤ store_place effect
         → Moved site task (follow_of slot tc site task fifo effect)
     unfolding follow_of
@@ -175,7 +175,7 @@ module _ (efifo : Bool) (f : Fifo) (ok : Bool) where
     unfolding turn_of
     turn_kept slot head =
         by_test (has_track site.disk head site.side) (Moved site task) _ _
-        (λ t. moves_kept (Searching (fresh_at slot)) f Nothing (omega arith) (λ o. refl) (λ p. p) (λ o h. refl)
+        (λ t. moves_kept (Searching (fresh_at slot)) f None (omega arith) (λ o. refl) (λ p. p) (λ o h. refl)
         (omega arith))
         (λ t. fails_kept 1 0)
 
@@ -189,14 +189,14 @@ module _ (efifo : Bool) (f : Fifo) (ok : Bool) where
     missed_kept look =
         by_test (second_pass look.slot site.disk.slots look.passes) (Moved site task) _ _
         (λ t. not_found_kept look)
-        (λ t. moves_kept (Searching _) f Nothing (omega arith) (λ o. refl) (λ p. p) (λ o h. refl) (omega arith))
+        (λ t. moves_kept (Searching _) f None (omega arith) (λ o. refl) (λ p. p) (λ o h. refl) (omega arith))
 
     bare_found_kept : (p : Pass) → task.transfer.pass ≡ p → (slot : ℕ)
         → Moved site task (bare_found p slot site task f)
     unfolding bare_found
     bare_found_kept Read e slot = fails_kept 1 1
     bare_found_kept Write e slot =
-        moves_kept (Awaiting slot 0) f Nothing (omega arith) (λ o. ap pass_writes e) (λ p. p) (λ o h. refl) (omega arith)
+        moves_kept (Awaiting slot 0) f None (omega arith) (λ o. ap pass_writes e) (λ p. p) (λ o h. refl) (omega arith)
 
   module _ (site : Site) (task : Task) where
     read_found_kept : (other broken : Bool) (slot : ℕ) → not (pass_writes task.transfer.pass) ≡ true
@@ -204,8 +204,8 @@ module _ (efifo : Bool) (f : Fifo) (ok : Bool) where
     unfolding read_found
     read_found_kept other broken slot e =
         by_test (other && task.transfer.sk) (Moved site task) _ _
-        (λ t. follow_kept site (with_other other task) slot f.tc f Nothing (λ p. p) (λ o h. refl) (omega arith))
-        (λ t. moves_kept site (with_other other task) (Reading _ 0) f Nothing (omega arith) (λ o. e) (λ p. p)
+        (λ t. follow_kept site (with_other other task) slot f.tc f None (λ p. p) (λ o h. refl) (omega arith))
+        (λ t. moves_kept site (with_other other task) (Reading _ 0) f None (omega arith) (λ o. e) (λ p. p)
         (λ o h. refl) (omega arith))
 
     data_found_kept : (p : Pass) → task.transfer.pass ≡ p → (deleted broken : Bool) (slot : ℕ)
@@ -213,7 +213,7 @@ module _ (efifo : Bool) (f : Fifo) (ok : Bool) where
     unfolding data_found
     data_found_kept Read e deleted broken slot = read_found_kept _ broken slot (ap (λ (q : Pass). not (pass_writes q)) e)
     data_found_kept Write e deleted broken slot =
-        moves_kept site task (Awaiting slot 0) f Nothing (omega arith) (λ o. ap pass_writes e) (λ p. p) (λ o h. refl)
+        moves_kept site task (Awaiting slot 0) f None (omega arith) (λ o. ap pass_writes e) (λ p. p) (λ o h. refl)
         (omega arith)
 
     looked_kept : (m : Mark) (id : Id) (look : Search) → Moved site task (looked_of m id look site task f)
@@ -239,8 +239,8 @@ module _ (efifo : Bool) (f : Fifo) (ok : Bool) where
     unfolding read_on
     read_on_kept sector done fifo s p =
         by_test (sector_over site done) (Moved site task) _ _
-        (λ t. moves_kept site task (Draining sector 0) fifo Nothing (omega arith) s p (λ o h. refl) (omega arith))
-        (λ t. moves_kept site task (Reading sector (done + 1)) fifo Nothing (omega arith) s p (λ o h. refl)
+        (λ t. moves_kept site task (Draining sector 0) fifo None (omega arith) s p (λ o h. refl) (omega arith))
+        (λ t. moves_kept site task (Reading sector (done + 1)) fifo None (omega arith) s p (λ o h. refl)
         (omega arith))
 
     overrun_kept : (sector : Sector) (done : ℕ)
@@ -249,9 +249,9 @@ module _ (efifo : Bool) (f : Fifo) (ok : Bool) where
     unfolding overrun read_on
     overrun_kept sector done s =
         by_test (sector_over site done) (Moved site task) _ _
-        (λ t. moves_kept site (tardy task) (Draining sector 0) shut Nothing (omega arith) s (λ p. fits_shut efifo)
+        (λ t. moves_kept site (tardy task) (Draining sector 0) shut None (omega arith) s (λ p. fits_shut efifo)
         (λ o h. refl) (omega arith))
-        (λ t. moves_kept site (tardy task) (Reading sector (done + 1)) shut Nothing (omega arith) s
+        (λ t. moves_kept site (tardy task) (Reading sector (done + 1)) shut None (omega arith) s
         (λ p. fits_shut efifo) (λ o h. refl) (omega arith))
 
     read_kept : (sector : Sector) (done head : ℕ) (img : List ℕ) (fifothr : ℕ)
@@ -271,10 +271,10 @@ module _ (efifo : Bool) (f : Fifo) (ok : Bool) where
         by_test sector.broken (Moved site task) _ _
         (λ t. fails_kept site task 0x20 0x20)
         (λ t. by_test task.late (Moved site task) _ _
-        (λ l. late_end_kept site task Nothing (λ o h. refl) (omega arith))
+        (λ l. late_end_kept site task None (λ o h. refl) (omega arith))
         (λ l. by_test sector.other (Moved site task) _ _
-        (λ u. move_end_kept site task true 0 0 task.id Nothing (λ o h. refl) (omega arith))
-        (λ u. follow_kept site task sector.slot f.tc f Nothing (λ p. p) (λ o h. refl) (omega arith))))
+        (λ u. move_end_kept site task true 0 0 task.id None (λ o h. refl) (omega arith))
+        (λ u. follow_kept site task sector.slot f.tc f None (λ p. p) (λ o h. refl) (omega arith))))
 
     drain_kept : (sector : Sector) (looks : ℕ) → (ok ≡ true → not (pass_writes task.transfer.pass) ≡ true)
         → Moved site task (drain_of sector looks site task f)
@@ -283,8 +283,8 @@ module _ (efifo : Bool) (f : Fifo) (ok : Bool) where
         by_test (eqb f.count 0) (Moved site task) _ _
         (λ t. drained_kept sector)
         (λ t. by_test (leb 63 looks) (Moved site task) _ _
-        (λ u. late_end_kept site task Nothing (λ o h. refl) (omega arith))
-        (λ u. moves_kept site task (Draining sector (looks + 1)) f Nothing
+        (λ u. late_end_kept site task None (λ o h. refl) (omega arith))
+        (λ u. moves_kept site task (Draining sector (looks + 1)) f None
         (omega (arith, leb-false 63 looks u)) s (λ p. p) (λ o h. refl) (omega arith)))
 
     -- 01 Write
@@ -294,8 +294,8 @@ module _ (efifo : Bool) (f : Fifo) (ok : Bool) where
     await_kept slot wait head s =
         by_test (eqb f.count 0) (Moved site task) _ _
         (λ t. by_test (leb 63 wait) (Moved site task) _ _
-        (λ u. late_end_kept site task Nothing (λ o h. refl) (omega arith))
-        (λ u. moves_kept site task (Awaiting slot (wait + 1)) f Nothing
+        (λ u. late_end_kept site task None (λ o h. refl) (omega arith))
+        (λ u. moves_kept site task (Awaiting slot (wait + 1)) f None
         (omega (arith, leb-false 63 wait u)) s (λ p. p) (λ o h. refl) (omega arith)))
         (λ t. moves_kept site task (Storing slot 0) f _ (omega arith) s (λ p. p)
         (λ o. may_store task.transfer.pass _ (s o)) (mark_behind site head slot))
@@ -339,7 +339,7 @@ module _ (efifo : Bool) (f : Fifo) (ok : Bool) where
   module _ (site : Site) where
     no_id_kept : Kept efifo f ok Quiet site.drive (no_id_of site)
     unfolding no_id_of
-    no_id_kept = end_kept _ _ false _ _ 1 0 _ Nothing (λ o h. refl) (omega arith)
+    no_id_kept = end_kept _ _ false _ _ 1 0 _ None (λ o h. refl) (omega arith)
 
     no_id_here_kept : (slot passes : ℕ) → Kept efifo f ok Quiet site.drive (no_id_here slot passes site f)
     unfolding no_id_here
@@ -359,7 +359,7 @@ module _ (efifo : Bool) (f : Fifo) (ok : Bool) where
 
     id_here_kept : (id : Id) → Kept efifo f ok Quiet site.drive (id_here id site)
     unfolding id_here
-    id_here_kept id = end_kept _ _ true _ _ 0 0 id Nothing (λ o h. refl) (omega arith)
+    id_here_kept id = end_kept _ _ true _ _ 0 0 id None (λ o h. refl) (omega arith)
 
     identified_kept : (m : Mark) (id : Id) (slot passes : ℕ)
         → Kept efifo f ok Quiet site.drive (identified_of m id slot passes site f)
@@ -399,8 +399,8 @@ module _ (efifo : Bool) (f : Fifo) (ok : Bool) where
     form_await_kept slot wait =
         by_test (eqb f.count 0) (Formed site) _ _
         (λ t. by_test (leb 63 wait) (Formed site) _ _
-        (λ u. format_end_kept false 0x10 slot Nothing (omega arith))
-        (λ u. forms_kept (form.Awaiting slot (wait + 1)) f Nothing (omega (arith, leb-false 63 wait u)) (λ p. p)
+        (λ u. format_end_kept false 0x10 slot None (omega arith))
+        (λ u. forms_kept (form.Awaiting slot (wait + 1)) f None (omega (arith, leb-false 63 wait u)) (λ p. p)
         (omega arith)))
         (λ t. forms_kept (Addressing slot 0) f _ (omega arith) (λ p. p) (mark_behind site head slot))
 
@@ -417,7 +417,7 @@ module _ (efifo : Bool) (f : Fifo) (ok : Bool) where
     unfolding address_of
     address_kept slot k fifothr =
         by_test (eqb f.count 0) (Formed site) _ _
-        (λ t. format_end_kept false 0x10 slot Nothing (omega arith))
+        (λ t. format_end_kept false 0x10 slot None (omega arith))
         (λ t. address_put_kept slot k _ _ (λ p. fits_drawn efifo fifothr f p) (omega (
           arith,
           mark_behind site head slot,
@@ -488,7 +488,7 @@ unfolding lost_of
 lost_kept (Identifying site slot passes) head fifo efifo = no_id_kept efifo fifo true site
 lost_kept (Moving site task stage) head fifo efifo = fails_kept efifo fifo _ site task 1 0
 lost_kept (Formatting site plan form) head fifo efifo = format_end_kept efifo fifo true site plan head false 1 _
-    Nothing (omega arith)
+    None (omega arith)
 
 -- a tick after the first, of any work
 pub go_on_kept : (work : Work) (disk : Disk) (head : ℕ) (img : List ℕ) (fifo : Fifo) (efifo : Bool) (fifothr : ℕ)
@@ -503,10 +503,10 @@ moving_kept : (p : Pass) (transfer : Transfer) (id : Id) (site : Site) (fifo : F
     → Kept efifo fifo true (pass_flow transfer.pass) site.drive (moving_of p transfer id site fifo)
 unfolding moving_of
 moving_kept Read transfer id site fifo efifo =
-    moves_kept efifo fifo true site (task_of transfer id) (Searching (fresh_at 0)) fifo Nothing
+    moves_kept efifo fifo true site (task_of transfer id) (Searching (fresh_at 0)) fifo None
     (omega arith) (λ o. refl) (λ p. p) (λ o h. refl) (omega arith)
 moving_kept Write transfer id site fifo efifo =
-    moves_kept efifo fifo true site (task_of transfer id) (Searching (fresh_at 0)) (opened_of fifo) Nothing
+    moves_kept efifo fifo true site (task_of transfer id) (Searching (fresh_at 0)) (opened_of fifo) None
     (omega arith) (λ o. refl) (λ p. fits_opened efifo fifo p) (λ o h. refl) (omega arith)
 
 start_kept : (job : Job) (site : Site) (fifo : Fifo) (efifo : Bool)
@@ -524,15 +524,15 @@ start_kept Identify site fifo efifo = record {
 }
 start_kept (Move transfer id) site fifo efifo = moving_kept transfer.pass transfer id site fifo efifo
 start_kept (Format plan) site fifo efifo =
-    forms_kept efifo fifo true site plan 0 (form.Awaiting 0 0) (opened_of fifo) Nothing (omega arith)
+    forms_kept efifo fifo true site plan 0 (form.Awaiting 0 0) (opened_of fifo) None (omega arith)
     (λ p. fits_opened efifo fifo p) (omega arith)
 
-entered_kept : (gate : Gate) (job : Job) (drive side head : ℕ) (fifo : Fifo) (efifo : Bool)
+entered_kept : (gate : Result Geometry Fault) (job : Job) (drive side head : ℕ) (fifo : Fifo) (efifo : Bool)
     → Kept efifo fifo true (job_flow job) drive (entered_of gate job drive side head fifo)
 unfolding entered_of
-entered_kept (Shut st1) job drive side head fifo efifo =
-    end_kept efifo fifo true _ _ false drive side st1 0 _ Nothing (λ o h. refl) (omega arith)
-entered_kept (Open g) job drive side head fifo efifo = start_kept job _ fifo efifo
+entered_kept (Err fault) job drive side head fifo efifo =
+    end_kept efifo fifo true _ _ false drive side _ 0 _ None (λ o h. refl) (omega arith)
+entered_kept (Ok g) job drive side head fifo efifo = start_kept job _ fifo efifo
 
 -- the first tick, of any order
 pub begin_kept : (order : Order) (disk : Disk) (head : ℕ) (fifo : Fifo) (efifo : Bool)

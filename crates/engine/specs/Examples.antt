@@ -1,11 +1,9 @@
 -- 01 Example 9, 01 Example 10, and ends of a search, on the image crate's small disk of one track with two sectors of
 -- 256 bytes. The proofs are in proofs/Examples.antt.
 -- Assumes nothing.
-use Rattle.std.specs.Prelude.{ℕ, zero, suc, Bool, true, false, List, ◌++◌, ◌≡◌, get_or, take, drop, replicate}
+use Rattle.std.specs.Prelude.{ℕ, zero, suc, Bool, true, false, List, ◌++◌, ◌≡◌, get_or, take, drop, replicate, None, Some}
 use Rattle.chip.specs.declared.fifo.Fifo.{Fifo}
 use Rattle.chip.specs.Fifo.{emptied, given_of}
-use Rattle.image.specs.declared.disk.Disk.TheVariants.{Absent, Present}
-use Rattle.image.specs.declared.lent.Effect.TheVariants.{Nothing}
 use Rattle.image.specs.declared.slot.Id.{Id}
 use Rattle.image.specs.Examples.{disk, sample}
 use Rattle.image.specs.Lent.{stored_in}
@@ -47,14 +45,14 @@ after_step step img = record { then = step.then; fifo = step.fifo; img = stored_
 
 -- the first tick, on sectors 1 and 2
 abbrev pub begun : Job → Setting
-begun job = after_step (begin_of (ordered job) (Present (disk 1 1 2 1)) 0 emptied) (sample 2)
+begun job = after_step (begin_of (ordered job) (Some (disk 1 1 2 1)) 0 emptied) (sample 2)
 
 -- a later tick, FIFO off; where the host serves, it has given a byte A5 before it if there is room
 abbrev pub setting_tick : Bool → Then → Fifo → List ℕ → Setting
 setting_tick serves (Ends verdict) fifo img = record { then = Ends verdict; fifo = fifo; img = img }
 setting_tick true (Works work) fifo img =
-    after_step (go_on_of work (Present (disk 1 1 2 1)) 0 img (given_of true false 0xA5 fifo) true 0) img
-setting_tick false (Works work) fifo img = after_step (go_on_of work (Present (disk 1 1 2 1)) 0 img fifo true 0) img
+    after_step (go_on_of work (Some (disk 1 1 2 1)) 0 img (given_of true false 0xA5 fifo) true 0) img
+setting_tick false (Works work) fifo img = after_step (go_on_of work (Some (disk 1 1 2 1)) 0 img fifo true 0) img
 
 abbrev pub ran : Bool → ℕ → Setting → Setting
 ran serves zero scene = scene
@@ -66,8 +64,8 @@ written stores = (ran true (suc stores) (begun (move_of Write (chrn_of 0 0 1))))
 
 pub record EngineExamples : Type 0 where
   -- 01 Example 9: Read, drive 0 empty: 40 01 00
-  pub ex9 : begin_of (ordered (move_of Read (chrn_of 0 0 1))) Absent 0 emptied
-      ≡ record { then = ended 0x40 0x01 0x00 (chrn_of 0 0 1); fifo = emptied; effect = Nothing }
+  pub ex9 : begin_of (ordered (move_of Read (chrn_of 0 0 1))) None 0 emptied
+      ≡ record { then = ended 0x40 0x01 0x00 (chrn_of 0 0 1); fifo = emptied; effect = None }
   -- 01 Example 10: B 256, 100 stores: mark 3, 99 new bytes; 258: mark 1. The sector's mark stands at 13
   pub ex10_100_mark : get_or (written 100) 13 0 ≡ 3
   pub ex10_100_bytes : take 256 (drop 18 (written 100)) ≡ replicate 99 0xA5 ++ replicate 157 0xF6

@@ -1,15 +1,13 @@
 -- 01 Data commands, the first tick: its tests in their order, and what stands after them.
 -- Assumes nothing.
-use Rattle.std.specs.Prelude.{ℕ, Bool, true, false, ◌&&◌, ◌||◌, not, cond, eqb, ltb}
+use Rattle.std.specs.Prelude.{ℕ, Bool, true, false, ◌&&◌, ◌||◌, not, cond, eqb, ltb, None, Some, Result, Ok, Err}
 use Rattle.chip.specs.declared.fifo.Fifo.{Fifo}
 use Rattle.chip.specs.Fifo.{opened_of}
-use Rattle.image.specs.declared.disk.Disk.{Disk}
-use Rattle.image.specs.declared.disk.Disk.TheVariants.{Absent, Present}
+use Rattle.image.specs.Disk.{Disk}
 use Rattle.image.specs.declared.layout.Geometry.{Geometry}
-use Rattle.image.specs.declared.lent.Effect.TheVariants.{Nothing}
 use Rattle.image.specs.declared.slot.Id.{Id}
-use Rattle.engine.specs.declared.first.Gate.{Gate}
-use Rattle.engine.specs.declared.first.Gate.TheVariants.{Shut, Open}
+use Rattle.engine.specs.declared.first.Fault.{Fault}
+use Rattle.engine.specs.declared.first.Fault.TheVariants.{Missing, Protected, Misplanned}
 use Rattle.sectors.specs.declared.order.Job.{Job}
 use Rattle.sectors.specs.declared.order.Job.TheVariants.{Identify, Move, Format}
 use Rattle.sectors.specs.declared.order.Order.{Order}
@@ -44,14 +42,20 @@ misplanned Identify g = false
 misplanned (Move transfer id) g = false
 misplanned (Format plan) g = not (eqb plan.n g.n) || eqb plan.sc 0 || ltb g.slots plan.sc
 
--- 01 Data commands: first tick, in this order: empty drive, no such track or side: ST1 01. Write or Format,
--- protected: ST1 02. Format with a wrong plan: ST1 04
-unfoldable pub gate_of : Disk → Job → ℕ → ℕ → Gate
-gate_of Absent job side head = Shut 0x01
-gate_of (Present g) job side head =
-    cond (not (has_track g head side)) (Shut 0x01)
-    (cond (changes job && g.protect) (Shut 0x02)
-    (cond (misplanned job g) (Shut 0x04) (Open g)))
+-- 01 Data commands: empty drive, no such track or side: ST1 01. Write or Format, protected: ST1 02. Format with a wrong
+-- plan: ST1 04
+abbrev pub st1_of : Fault → ℕ
+st1_of Missing = 0x01
+st1_of Protected = 0x02
+st1_of Misplanned = 0x04
+
+-- 01 Data commands: first tick, in this order; the fault, or the disk met
+unfoldable pub gate_of : Disk → Job → ℕ → ℕ → Result Geometry Fault
+gate_of None job side head = Err Missing
+gate_of (Some g) job side head =
+    cond (not (has_track g head side)) (Err Missing)
+    (cond (changes job && g.protect) (Err Protected)
+    (cond (misplanned job g) (Err Misplanned) (Ok g)))
 
 -- 01 Result: the sector in hand; 01 Read ID: zeros; 01 Format: with no slot done
 unfoldable pub given_id : Job → ℕ → ℕ → ℕ → Id
@@ -64,17 +68,18 @@ task_of transfer id = record { transfer = transfer; id = id; other = false; late
 
 -- 01 FIFO: from host on once the first tests pass. A command's first search starts at slot 0 (D-102)
 unfoldable pub moving_of : Pass → Transfer → Id → Site → Fifo → Step
-moving_of Read transfer id site fifo = moves_of (Searching (fresh_at 0)) site (task_of transfer id) fifo Nothing
-moving_of Write transfer id site fifo = moves_of (Searching (fresh_at 0)) site (task_of transfer id) (opened_of fifo) Nothing
+moving_of Read transfer id site fifo = moves_of (Searching (fresh_at 0)) site (task_of transfer id) fifo None
+moving_of Write transfer id site fifo = moves_of (Searching (fresh_at 0)) site (task_of transfer id) (opened_of fifo) None
 
 unfoldable pub start_job : Job → Site → Fifo → Step
-start_job Identify site fifo = goes_of (Identifying site 0 0) fifo Nothing
+start_job Identify site fifo = goes_of (Identifying site 0 0) fifo None
 start_job (Move transfer id) site fifo = moving_of transfer.pass transfer id site fifo
-start_job (Format plan) site fifo = forms_of (Awaiting 0 0) site plan (opened_of fifo) Nothing
+start_job (Format plan) site fifo = forms_of (Awaiting 0 0) site plan (opened_of fifo) None
 
-unfoldable pub entered_of : Gate → Job → ℕ → ℕ → ℕ → Fifo → Step
-entered_of (Shut st1) job drive side head fifo = end_of false drive side st1 0x00 (given_id job drive side head) Nothing
-entered_of (Open g) job drive side head fifo = start_job job (record { drive = drive; side = side; disk = g }) fifo
+unfoldable pub entered_of : Result Geometry Fault → Job → ℕ → ℕ → ℕ → Fifo → Step
+entered_of (Err fault) job drive side head fifo =
+    end_of false drive side (st1_of fault) 0x00 (given_id job drive side head) None
+entered_of (Ok g) job drive side head fifo = start_job job (record { drive = drive; side = side; disk = g }) fifo
 
 -- 01 Data commands: the first tick does its tests and nothing else
 unfoldable pub begin_of : Order → Disk → ℕ → Fifo → Step

@@ -1,11 +1,11 @@
 -- 01 Format: wait as for Write; mark 0, the host's four bytes, B times D, mark 1; after SC slots each slot left gets
 -- mark 0.
 -- Assumes nothing.
-use Rattle.std.specs.Prelude.{ℕ, ◌+◌, Bool, true, false, cond, eqb, leb, ltb}
+use Rattle.image.specs.Lent.{put_at}
+use Rattle.std.specs.Prelude.{ℕ, ◌+◌, Bool, true, false, cond, eqb, leb, ltb, Option, None, Some}
 use Rattle.chip.specs.declared.fifo.Fifo.{Fifo}
 use Rattle.chip.specs.Fifo.{drawn_of, front_of}
-use Rattle.image.specs.declared.lent.Effect.{Effect}
-use Rattle.image.specs.declared.lent.Effect.TheVariants.{Nothing, Store}
+use Rattle.image.specs.Lent.{Effect}
 use Rattle.image.specs.declared.mark.Mark.TheVariants.{NoId, Data}
 use Rattle.image.specs.declared.slot.Id.{Id}
 use Rattle.image.specs.Mark.{byte_of}
@@ -44,16 +44,16 @@ forms_of form site plan fifo effect = goes_of (Formatting site plan form) fifo e
 
 -- 01 Format: B times D. What a formatted slot is laid down with is said here alone: no byte of it is the host's, so
 -- none is missing and the FIFO stays as it is
-abbrev pub laid_of : Plan → Fifo → Bool → ℕ → Laid
-laid_of plan fifo efifo fifothr = record { missing = false; byte = plan.fill; fifo = fifo }
+abbrev pub laid_of : Plan → Fifo → Bool → ℕ → Option Laid
+laid_of plan fifo efifo fifothr = Some (record { byte = plan.fill; fifo = fifo })
 
 -- 01 Format: wait as for Write; mark 0 in the tick that finds the byte, which is left
 unfoldable pub form_await : ℕ → ℕ → Site → Plan → ℕ → Fifo → Step
 form_await slot wait site plan head fifo =
     cond (eqb fifo.count 0)
-    (cond (leb 63 wait) (format_end false 0x10 slot Nothing site plan head)
-    (forms_of (Awaiting slot (wait + 1)) site plan fifo Nothing))
-    (forms_of (Addressing slot 0) site plan fifo (Store (mark_place site head slot) (byte_of NoId)))
+    (cond (leb 63 wait) (format_end false 0x10 slot None site plan head)
+    (forms_of (Awaiting slot (wait + 1)) site plan fifo None))
+    (forms_of (Addressing slot 0) site plan fifo (Some (put_at (mark_place site head slot) (byte_of NoId))))
 
 -- the host's byte k of four stored behind the mark
 unfoldable pub address_put : ℕ → ℕ → Site → Plan → Fifo → Effect → Step
@@ -64,8 +64,8 @@ address_put slot k site plan fifo effect =
 -- 01 Format: the host's four bytes; a byte missing then ends it at once, ST1 10. TC is ignored
 unfoldable pub address_of : ℕ → ℕ → Site → Plan → ℕ → Fifo → Bool → ℕ → Step
 address_of slot k site plan head fifo efifo fifothr =
-    cond (eqb fifo.count 0) (format_end false 0x10 slot Nothing site plan head)
-    (address_put slot k site plan (drawn_of efifo fifothr fifo) (Store (mark_place site head slot + 1 + k) (front_of fifo)))
+    cond (eqb fifo.count 0) (format_end false 0x10 slot None site plan head)
+    (address_put slot k site plan (drawn_of efifo fifothr fifo) (Some (put_at (mark_place site head slot + 1 + k) (front_of fifo))))
 
 -- 01 Format: after SC slots each slot left gets mark 0; the end falls in the last store's tick
 unfoldable pub clear_on : ℕ → Site → Plan → ℕ → Fifo → Effect → Step
@@ -80,20 +80,20 @@ formed_of slot site plan head fifo effect =
     (clear_on slot site plan head fifo effect)
 
 -- one byte laid down; one that is missing ends it at once, ST1 10
-abbrev pub lay_of : Laid → ℕ → ℕ → Site → Plan → ℕ → Step
-lay_of laid slot done site plan head =
-    cond laid.missing (format_end false 0x10 slot Nothing site plan head)
-    (forms_of (Filling slot (done + 1)) site plan laid.fifo (Store (data_place site head slot done) laid.byte))
+abbrev pub lay_of : Option Laid → ℕ → ℕ → Site → Plan → ℕ → Step
+lay_of None slot done site plan head = format_end false 0x10 slot None site plan head
+lay_of (Some laid) slot done site plan head =
+    forms_of (Filling slot (done + 1)) site plan laid.fifo (Some (put_at (data_place site head slot done) laid.byte))
 
 -- 01 Format: B times D, mark 1
 unfoldable pub fill_of : ℕ → ℕ → Site → Plan → ℕ → Fifo → Bool → ℕ → Step
 fill_of slot done site plan head fifo efifo fifothr =
     cond (leb (sector_bytes site) done)
-    (formed_of slot site plan head fifo (Store (mark_place site head slot) (byte_of (Data false false))))
+    (formed_of slot site plan head fifo (Some (put_at (mark_place site head slot) (byte_of (Data false false)))))
     (lay_of (laid_of plan fifo efifo fifothr) slot done site plan head)
 
 unfoldable pub clear_of : ℕ → Site → Plan → ℕ → Fifo → Step
-clear_of slot site plan head fifo = clear_on slot site plan head fifo (Store (mark_place site head slot) (byte_of NoId))
+clear_of slot site plan head fifo = clear_on slot site plan head fifo (Some (put_at (mark_place site head slot) (byte_of NoId)))
 
 -- a tick of a Format, by its stage
 unfoldable pub form_of : Form → Site → Plan → ℕ → Fifo → Bool → ℕ → Step

@@ -1,11 +1,10 @@
 -- house: what a tick of a command keeps to, whatever record it is handed: its wait, the FIFO, its direction and
 -- drive, and that only a Write or a Format stores. The laws are in proofs/KeptLaws.antt.
 -- Assumes nothing.
-use Rattle.std.specs.Prelude.{ℕ, ◌≤◌, Bool, true, false, not, ◌≡◌}
+use Rattle.std.specs.Prelude.{ℕ, ◌≤◌, Bool, true, false, not, ◌≡◌, None, Some}
 use Rattle.chip.specs.declared.fifo.Fifo.{Fifo}
 use Rattle.chip.specs.Fifo.{emptied, FitsFifo}
-use Rattle.image.specs.declared.lent.Effect.{Effect}
-use Rattle.image.specs.declared.lent.Effect.TheVariants.{Nothing, Store}
+use Rattle.image.specs.Lent.{Effect}
 use Rattle.engine.specs.declared.flow.Flow.{Flow}
 use Rattle.engine.specs.declared.flow.Flow.TheVariants.{Quiet, FromHost}
 use Rattle.sectors.specs.declared.order.Job.{Job}
@@ -63,8 +62,8 @@ then_fifo fifo (Works work) = fifo
 
 -- where a store goes; no store counts as one right behind the header
 abbrev pub store_place : Effect → ℕ
-store_place Nothing = 13
-store_place (Store at byte) = at
+store_place None = 13
+store_place (Some put) = put.at
 
 -- a tick that was handed a FIFO, and a work whose stage suits or not, of that direction and drive
 pub record Kept (efifo : Bool) (before : Fifo) (ok : Bool) (flow : Flow) (drive : ℕ) (step : Step) : Type 0 where
@@ -75,7 +74,7 @@ pub record Kept (efifo : Bool) (before : Fifo) (ok : Bool) (flow : Flow) (drive 
   -- 01 Refusals 4: a FIFO within its capacity stays so
   pub fits : FitsFifo efifo before → FitsFifo efifo step.fifo
   -- only a Write or a Format stores
-  pub stores : ok ≡ true → from_host flow ≡ false → step.effect ≡ Nothing
+  pub stores : ok ≡ true → from_host flow ≡ false → step.effect ≡ None
   -- 01 Image: no store touches the header or the first track's tag, so that the disk met stays through the command's
   -- own stores
   pub behind : 13 ≤ store_place step.effect

@@ -1,8 +1,7 @@
 -- 01 Read ID: the first ID from slot 0.
 -- Assumes nothing.
-use Rattle.std.specs.Prelude.{ℕ, true, false, cond, List}
+use Rattle.std.specs.Prelude.{ℕ, true, false, cond, List, None}
 use Rattle.chip.specs.declared.fifo.Fifo.{Fifo}
-use Rattle.image.specs.declared.lent.Effect.TheVariants.{Nothing}
 use Rattle.image.specs.declared.mark.Mark.{Mark}
 use Rattle.image.specs.declared.mark.Mark.TheVariants.{NoId, Data, NoData}
 use Rattle.image.specs.declared.slot.Id.{Id}
@@ -20,7 +19,7 @@ no_address = record { c = 0; h = 0; r = 0; n = 0 }
 
 -- 01 Read ID: failing ends have ST1 01
 unfoldable pub no_id_of : Site → Step
-no_id_of site = end_of false site.drive site.side 0x01 0x00 no_address Nothing
+no_id_of site = end_of false site.drive site.side 0x01 0x00 no_address None
 
 -- 01 Read ID: none by the second index, ST1 01
 unfoldable pub no_id_here : ℕ → ℕ → Site → Fifo → Step
@@ -29,10 +28,10 @@ no_id_here slot passes site fifo =
     (goes_of
     (Identifying site (next_slot slot site.disk.slots) (passes_after slot site.disk.slots passes))
     fifo
-    Nothing)
+    None)
 
 unfoldable pub id_here : Id → Site → Step
-id_here id site = end_of true site.drive site.side 0x00 0x00 id Nothing
+id_here id site = end_of true site.drive site.side 0x00 0x00 id None
 
 -- any mark 1 to 5, any N (D-115)
 unfoldable pub identified_of : Mark → Id → ℕ → ℕ → Site → Fifo → Step

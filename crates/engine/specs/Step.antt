@@ -1,9 +1,8 @@
 -- 01 Data commands: a later tick of a command at work, and what the controller asks of it.
 -- Assumes nothing.
-use Rattle.std.specs.Prelude.{ℕ, Bool, true, false, cond, List}
+use Rattle.std.specs.Prelude.{ℕ, Bool, true, false, cond, List, None}
 use Rattle.chip.specs.declared.fifo.Fifo.{Fifo}
-use Rattle.image.specs.declared.disk.Disk.{Disk}
-use Rattle.image.specs.declared.lent.Effect.TheVariants.{Nothing}
+use Rattle.image.specs.Disk.{Disk}
 use Rattle.engine.specs.declared.flow.Flow.{Flow}
 use Rattle.engine.specs.declared.flow.Flow.TheVariants.{Quiet, ToHost, FromHost}
 use Rattle.sectors.specs.declared.order.Pass.{Pass}
@@ -33,7 +32,7 @@ site_of (Formatting site plan form) = site
 unfoldable pub lost_of : Work → ℕ → Step
 lost_of (Identifying site slot passes) head = no_id_of site
 lost_of (Moving site task stage) head = move_fails 0x01 0x00 site task
-lost_of (Formatting site plan form) head = format_end false 0x01 (done_of form plan) Nothing site plan head
+lost_of (Formatting site plan form) head = format_end false 0x01 (done_of form plan) None site plan head
 
 -- a tick of a transfer, by its stage
 unfoldable pub stage_of : Stage → Site → Task → ℕ → List ℕ → Fifo → Bool → ℕ → Step

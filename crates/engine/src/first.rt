@@ -1,9 +1,9 @@
 // 01 Data commands, the first tick: its tests, and what stands after them.
-ghost use Rattle.std.specs.Prelude.{◌≡◌, not, ◌||◌, eqb, ltb};
+ghost use Rattle.std.specs.Prelude.{◌≡◌};
 ghost use Rattle.engine.specs.First.{
-  pass_writes,
   changes,
   misplanned,
+  st1_of,
   gate_of,
   given_id,
   task_of,
@@ -16,29 +16,32 @@ ghost use Rattle.engine.specs.First.{
 use crate::format::{format_id, forms};
 use crate::read_id::no_address;
 use chip::fifo::Fifo;
-use image::disk::Disk;
 use image::layout::Geometry;
-use image::lent::Effect;
 use image::slot::Id;
 use sectors::follow::fresh_at;
-use sectors::order::{Job, Order, Pass, Plan, Transfer};
+use sectors::order::{Job, Order, Pass, Transfer};
 use sectors::result::{end, goes, moves};
 use sectors::track::has_track;
 use sectors::work::{Form, Site, Stage, Step, Task, Work};
 
-// What the first tests say: the end's ST1, or the disk met.
-#[derive(Clone, Copy)]
-enum Gate {
-    Shut(u8),
-    Open(Geometry),
+// What the first tests find wrong: no such disk, track or side; a protected one; a Format's plan.
+#[derive(Clone, Copy, Debug, PartialEq, Eq)]
+enum Fault {
+    Missing,
+    Protected,
+    Misplanned,
 }
 
-fn pass_writes(pass: Pass) -> bool
-    ensures { result ≡ pass_writes pass }
-{
-    match pass {
-        Pass::Read => false,
-        Pass::Write => true,
+// The end's ST1.
+impl From<Fault> for u8 {
+    ghost from_gives = { λ fault st1. st1 ≡ st1_of fault };
+
+    fn from(fault: Fault) -> u8 {
+        match fault {
+            Fault::Missing => 0x01,
+            Fault::Protected => 0x02,
+            Fault::Misplanned => 0x04,
+        }
     }
 }
 
@@ -47,53 +50,36 @@ fn job_changes(job: Job) -> bool
 {
     match job {
         Job::Identify => false,
-        Job::Move(transfer, id) => {
-            let pass = transfer.pass;
-            pass_writes(pass)
-        }
-        Job::Format(plan) => true,
+        Job::Move(transfer, _) => transfer.pass == Pass::Write,
+        Job::Format(_) => true,
     }
-}
-
-fn plan_wrong(plan: Plan, g: Geometry) -> bool
-    ensures { result ≡ not (eqb plan.n g.n) || eqb plan.sc 0 || ltb g.slots plan.sc }
-{
-    (plan.n != g.n) | (plan.sc == 0) | (g.slots < plan.sc)
 }
 
 fn job_misplanned(job: Job, g: Geometry) -> bool
     ensures { result ≡ misplanned job g }
 {
     match job {
-        Job::Identify => false,
-        Job::Move(transfer, id) => false,
-        Job::Format(plan) => plan_wrong(plan, g),
+        Job::Format(plan) => (plan.n != g.n) | (plan.sc == 0) | (g.slots < plan.sc),
+        Job::Identify | Job::Move(..) => false,
     }
 }
 
 // The tests of a first tick, in their order.
 #[tactic(auto, unfolding(crate::specs::First::gate_of))]
-fn first_tests(disk: Disk, job: Job, side: u8, head: u8) -> Gate
+fn first_tests(disk: Option<Geometry>, job: Job, side: u8, head: u8) -> Result<Geometry, Fault>
     ensures { result ≡ gate_of disk job side head }
 {
-    match disk {
-        Disk::Absent => Gate::Shut(0x01),
-        Disk::Present(g) => {
-            let missing = !has_track(g, head, side);
-            if missing {
-                return Gate::Shut(0x01);
-            }
-            let protected = job_changes(job) & g.protect;
-            if protected {
-                return Gate::Shut(0x02);
-            }
-            let wrong = job_misplanned(job, g);
-            if wrong {
-                return Gate::Shut(0x04);
-            }
-            Gate::Open(g)
-        }
+    let g = disk.ok_or(Fault::Missing)?;
+    if !has_track(g, head, side) {
+        return Err(Fault::Missing);
     }
+    if job_changes(job) & g.protect {
+        return Err(Fault::Protected);
+    }
+    if job_misplanned(job, g) {
+        return Err(Fault::Misplanned);
+    }
+    Ok(g)
 }
 
 // The address of an end in the first tick.
@@ -103,7 +89,7 @@ fn given_id(job: Job, drive: u8, side: u8, head: u8) -> Id
 {
     match job {
         Job::Identify => no_address(),
-        Job::Move(transfer, id) => id,
+        Job::Move(_, id) => id,
         Job::Format(plan) => format_id(plan, drive, head, side, 0),
     }
 }
@@ -119,27 +105,22 @@ fn task_of(transfer: Transfer, id: Id) -> Task
     }
 }
 
+// A Write's request from the host goes on.
 #[tactic(auto, unfolding(crate::specs::First::moving_of))]
-fn moving(pass: Pass, transfer: Transfer, id: Id, site: Site, fifo: Fifo) -> Step
-    ensures { result ≡ moving_of pass transfer id site fifo }
+fn moving(transfer: Transfer, id: Id, site: Site, fifo: Fifo) -> Step
+    ensures { result ≡ moving_of transfer.pass transfer id site fifo }
 {
-    let task = task_of(transfer, id);
-    match pass {
-        Pass::Read => moves(
-            Stage::Searching(fresh_at(0)),
-            site,
-            task,
-            fifo,
-            Effect::Nothing,
-        ),
-        Pass::Write => moves(
-            Stage::Searching(fresh_at(0)),
-            site,
-            task,
-            fifo.opened(),
-            Effect::Nothing,
-        ),
-    }
+    let asked = match transfer.pass {
+        Pass::Read => fifo,
+        Pass::Write => fifo.opened(),
+    };
+    moves(
+        Stage::Searching(fresh_at(0)),
+        site,
+        task_of(transfer, id),
+        asked,
+        None,
+    )
 }
 
 #[tactic(auto, unfolding(crate::specs::First::start_job))]
@@ -147,47 +128,23 @@ fn start(job: Job, site: Site, fifo: Fifo) -> Step
     ensures { result ≡ start_job job site fifo }
 {
     match job {
-        Job::Identify => goes(Work::Identifying(site, 0, 0), fifo, Effect::Nothing),
-        Job::Move(transfer, id) => {
-            let pass = transfer.pass;
-            moving(pass, transfer, id, site, fifo)
-        }
-        Job::Format(plan) => forms(
-            Form::Awaiting(0, 0),
-            site,
-            plan,
-            fifo.opened(),
-            Effect::Nothing,
-        ),
-    }
-}
-
-#[tactic(auto, unfolding(crate::specs::First::entered_of))]
-fn entered(gate: Gate, job: Job, drive: u8, side: u8, head: u8, fifo: Fifo) -> Step
-    ensures { result ≡ entered_of gate job drive side head fifo }
-{
-    match gate {
-        Gate::Shut(st1) => {
-            let id = given_id(job, drive, side, head);
-            end(false, drive, side, st1, 0x00, id, Effect::Nothing)
-        }
-        Gate::Open(g) => {
-            let site = Site {
-                drive,
-                side,
-                disk: g,
-            };
-            start(job, site, fifo)
-        }
+        Job::Identify => goes(Work::Identifying(site, 0, 0), fifo, None),
+        Job::Move(transfer, id) => moving(transfer, id, site, fifo),
+        Job::Format(plan) => forms(Form::Awaiting(0, 0), site, plan, fifo.opened(), None),
     }
 }
 
 // The first tick of a command.
-#[tactic(auto, unfolding(crate::specs::First::begin_of))]
-pub fn begin(order: Order, disk: Disk, head: u8, fifo: Fifo) -> Step
+#[tactic(auto, unfolding(crate::specs::First::begin_of, crate::specs::First::entered_of))]
+pub fn begin(order: Order, disk: Option<Geometry>, head: u8, fifo: Fifo) -> Step
     ensures { result ≡ begin_of order disk head fifo }
 {
-    let job = order.job;
-    let gate = first_tests(disk, job, order.side, head);
-    entered(gate, job, order.drive, order.side, head, fifo)
+    let Order { drive, side, job } = order;
+    match first_tests(disk, job, side, head) {
+        Err(fault) => {
+            let id = given_id(job, drive, side, head);
+            end(false, drive, side, u8::from(fault), 0x00, id, None)
+        }
+        Ok(disk) => start(job, Site { drive, side, disk }, fifo),
+    }
 }

@@ -1,5 +1,5 @@
 // 01 Format: mark 0, the host's four bytes, B times D, mark 1; then mark 0 for each slot left.
-ghost use Rattle.std.specs.Prelude.{◌≡◌, ◌<◌};
+ghost use Rattle.std.specs.Prelude.{◌≡◌};
 ghost use Rattle.engine.specs.Format.{
   format_head,
   format_id,
@@ -12,58 +12,35 @@ ghost use Rattle.engine.specs.Format.{
   address_of,
   clear_on,
   formed_of,
-  lay_of,
   fill_of,
   clear_of,
   form_of,
 };
 
-use chip::fifo::Fifo;
-use image::lent::Effect;
-use image::mark::{Mark, mark_byte};
+use chip::fifo::{Fifo, Setting};
+use image::lent::Put;
+use image::mark::Mark;
 use image::slot::Id;
 use sectors::order::Plan;
 use sectors::result::{end, goes};
-use sectors::track::{data_place, mark_place, sector_bytes};
 use sectors::work::{Form, Site, Step, Work};
 
 // Drives 2 and 3 have no head.
 fn format_head(drive: u8, head: u8) -> u8
     ensures { result ≡ format_head drive head }
 {
-    let real = drive < 2;
-    if real {
-        return head;
-    }
-    0
+    if drive < 2 { head } else { 0 }
 }
 
 pub fn format_id(plan: Plan, drive: u8, head: u8, side: u8, done: u8) -> Id
     ensures { result ≡ format_id plan drive head side done }
 {
-    let c = format_head(drive, head);
     Id {
-        c,
+        c: format_head(drive, head),
         h: side,
         r: done,
         n: plan.n,
     }
-}
-
-#[tactic(auto, unfolding(crate::specs::Format::format_end))]
-pub fn format_end(
-    normal: bool,
-    st1: u8,
-    done: u8,
-    effect: Effect,
-    site: Site,
-    plan: Plan,
-    head: u8,
-) -> Step
-    ensures { result ≡ format_end normal st1 done effect site plan head }
-{
-    let id = format_id(plan, site.drive, head, site.side, done);
-    end(normal, site.drive, site.side, st1, 0x00, id, effect)
 }
 
 // Slots formatted whole.
@@ -71,189 +48,159 @@ pub fn slots_done(form: Form, plan: Plan) -> u8
     ensures { result ≡ done_of form plan }
 {
     match form {
-        Form::Awaiting(slot, wait) => slot,
-        Form::Addressing(slot, k) => slot,
-        Form::Filling(slot, done) => slot,
-        Form::Clearing(slot) => plan.sc,
+        Form::Awaiting(slot, _) | Form::Addressing(slot, _) | Form::Filling(slot, _) => slot,
+        Form::Clearing(_) => plan.sc,
     }
 }
 
-pub fn forms(form: Form, site: Site, plan: Plan, fifo: Fifo, effect: Effect) -> Step
+pub fn forms(form: Form, site: Site, plan: Plan, fifo: Fifo, effect: Option<Put>) -> Step
     ensures { result ≡ forms_of form site plan fifo effect }
 {
     goes(Work::Formatting(site, plan, form), fifo, effect)
 }
 
-// What a byte of a formatted slot is: the byte and the FIFO after it, or none where the host's is missing.
+// A byte that a formatted slot is laid down with, and the FIFO after it.
 #[derive(Clone, Copy)]
 pub struct Laid {
-    pub missing: bool,
     pub byte: u8,
     pub fifo: Fifo,
 }
 
-// The fill byte; the FIFO is not asked.
-fn lay(plan: Plan, fifo: Fifo, efifo: bool, fifothr: u8) -> Laid
-    ensures { result ≡ laid_of plan fifo efifo fifothr }
-{
-    Laid {
-        missing: false,
-        byte: plan.fill,
-        fifo,
-    }
+// What a tick of a Format is handed: where it works, its plan, the drive's head, and the FIFO as it is set. No one generic
+// struct of it and `Moving`: that one is of the crate below, so that these methods would need a trait, which is no plainer.
+#[derive(Clone, Copy)]
+pub struct Formatting {
+    pub site: Site,
+    pub plan: Plan,
+    pub head: u8,
+    pub fifo: Fifo,
+    pub set: Setting,
 }
 
-#[tactic(auto, unfolding(crate::specs::Format::form_await))]
-fn await_address(slot: u8, wait: u8, site: Site, plan: Plan, head: u8, fifo: Fifo) -> Step
-    ensures { result ≡ form_await slot wait site plan head fifo }
-{
-    let empty = fifo.count == 0;
-    if empty {
-        if 63 <= wait {
-            return format_end(false, 0x10, slot, Effect::Nothing, site, plan, head);
+impl Formatting {
+    fn forms(self, form: Form, effect: Option<Put>) -> Step
+        ensures { result ≡ forms_of form self.site self.plan self.fifo effect }
+    {
+        forms(form, self.site, self.plan, self.fifo, effect)
+    }
+
+    #[tactic(auto, unfolding(crate::specs::Format::format_end))]
+    pub fn ends(self, normal: bool, st1: u8, done: u8, effect: Option<Put>) -> Step
+        ensures { result ≡ format_end normal st1 done effect self.site self.plan self.head }
+    {
+        let site = self.site;
+        let id = format_id(self.plan, site.drive, self.head, site.side, done);
+        end(normal, site.drive, site.side, st1, 0x00, id, effect)
+    }
+
+    // The fill byte; the FIFO is not asked, so that no byte is missing.
+    fn lay(self) -> Option<Laid>
+        ensures { result ≡ laid_of self.plan self.fifo self.set.efifo self.set.fifothr }
+    {
+        Some(Laid {
+            byte: self.plan.fill,
+            fifo: self.fifo,
+        })
+    }
+
+    // It waits as a Write does, but its end has another address and its first mark is none, so that each says its own.
+    #[tactic(auto, unfolding(crate::specs::Format::form_await))]
+    fn await_address(self, slot: u8, wait: u8) -> Step
+        ensures { result ≡ form_await slot wait self.site self.plan self.head self.fifo }
+    {
+        if self.fifo.count == 0 {
+            if 63 <= wait {
+                return self.ends(false, 0x10, slot, None);
+            }
+            return self.forms(Form::Awaiting(slot, wait + 1), None);
         }
-        return forms(
-            Form::Awaiting(slot, wait + 1),
-            site,
-            plan,
-            fifo,
-            Effect::Nothing,
-        );
+        let at = self.site.mark_place(self.head, slot);
+        let byte = u8::from(Mark::NoId);
+        self.forms(Form::Addressing(slot, 0), Some(Put { at, byte }))
     }
-    let at = mark_place(site, head, slot);
-    let byte = mark_byte(Mark::NoId);
-    forms(
-        Form::Addressing(slot, 0),
-        site,
-        plan,
-        fifo,
-        Effect::Store { at, byte },
-    )
-}
 
-#[tactic(auto, unfolding(crate::specs::Format::address_put))]
-fn put_address(slot: u8, k: u8, site: Site, plan: Plan, fifo: Fifo, effect: Effect) -> Step
-    ensures { result ≡ address_put slot k site plan fifo effect }
-{
-    if 3 <= k {
-        return forms(Form::Filling(slot, 0), site, plan, fifo, effect);
+    #[tactic(auto, unfolding(crate::specs::Format::address_put))]
+    fn put_address(self, slot: u8, k: u8, effect: Option<Put>) -> Step
+        ensures { result ≡ address_put slot k self.site self.plan self.fifo effect }
+    {
+        if 3 <= k {
+            return self.forms(Form::Filling(slot, 0), effect);
+        }
+        self.forms(Form::Addressing(slot, k + 1), effect)
     }
-    forms(Form::Addressing(slot, k + 1), site, plan, fifo, effect)
-}
 
-#[tactic(auto, unfolding(crate::specs::Format::address_of))]
-fn address(
-    slot: u8,
-    k: u8,
-    site: Site,
-    plan: Plan,
-    head: u8,
-    fifo: Fifo,
-    efifo: bool,
-    fifothr: u8,
-) -> Step
-    ensures { result ≡ address_of slot k site plan head fifo efifo fifothr }
-{
-    let empty = fifo.count == 0;
-    if empty {
-        return format_end(false, 0x10, slot, Effect::Nothing, site, plan, head);
+    #[tactic(auto, unfolding(crate::specs::Format::address_of))]
+    fn address(self, slot: u8, k: u8) -> Step
+        ensures { result
+            ≡ address_of slot k self.site self.plan self.head self.fifo self.set.efifo self.set.fifothr }
+    {
+        if self.fifo.count == 0 {
+            return self.ends(false, 0x10, slot, None);
+        }
+        let at = self.site.mark_place(self.head, slot) + 1 + usize::from(k);
+        let byte = self.fifo.front();
+        let fifo = self.fifo.drawn(self.set);
+        Formatting { fifo, ..self }.put_address(slot, k, Some(Put { at, byte }))
     }
-    let at = mark_place(site, head, slot) + 1 + k as usize;
-    let byte = fifo.front();
-    let f = fifo.drawn(efifo, fifothr);
-    put_address(slot, k, site, plan, f, Effect::Store { at, byte })
-}
 
-#[tactic(auto, unfolding(crate::specs::Format::clear_on))]
-fn clear_on(slot: u8, site: Site, plan: Plan, head: u8, fifo: Fifo, effect: Effect) -> Step
-    ensures { result ≡ clear_on slot site plan head fifo effect }
-{
-    let slots = site.disk.slots;
-    if slot as u16 + 1 < slots as u16 {
-        return forms(Form::Clearing(slot + 1), site, plan, fifo, effect);
+    #[tactic(auto, unfolding(crate::specs::Format::clear_on))]
+    fn clear_on(self, slot: u8, effect: Option<Put>) -> Step
+        ensures { result ≡ clear_on slot self.site self.plan self.head self.fifo effect }
+    {
+        if u16::from(slot) + 1 < u16::from(self.site.disk.slots) {
+            return self.forms(Form::Clearing(slot + 1), effect);
+        }
+        self.ends(true, 0x00, self.plan.sc, effect)
     }
-    format_end(true, 0x00, plan.sc, effect, site, plan, head)
-}
 
-#[tactic(auto, unfolding(crate::specs::Format::formed_of))]
-fn formed(slot: u8, site: Site, plan: Plan, head: u8, fifo: Fifo, effect: Effect) -> Step
-    ensures { result ≡ formed_of slot site plan head fifo effect }
-{
-    if slot as u16 + 1 < plan.sc as u16 {
-        return forms(Form::Awaiting(slot + 1, 0), site, plan, fifo, effect);
+    #[tactic(auto, unfolding(crate::specs::Format::formed_of))]
+    fn formed(self, slot: u8, effect: Option<Put>) -> Step
+        ensures { result ≡ formed_of slot self.site self.plan self.head self.fifo effect }
+    {
+        if u16::from(slot) + 1 < u16::from(self.plan.sc) {
+            return self.forms(Form::Awaiting(slot + 1, 0), effect);
+        }
+        self.clear_on(slot, effect)
     }
-    clear_on(slot, site, plan, head, fifo, effect)
-}
 
-fn put_laid(laid: Laid, slot: u8, done: u16, site: Site, plan: Plan, head: u8) -> Step
-    requires { done < 1024 }
-    ensures { result ≡ lay_of laid slot done site plan head }
-{
-    if laid.missing {
-        return format_end(false, 0x10, slot, Effect::Nothing, site, plan, head);
+    #[tactic(auto, unfolding(crate::specs::Format::fill_of))]
+    fn fill(self, slot: u8, done: u16) -> Step
+        ensures { result
+            ≡ fill_of slot done self.site self.plan self.head self.fifo self.set.efifo self.set.fifothr }
+    {
+        if self.site.sector_bytes() <= usize::from(done) {
+            let at = self.site.mark_place(self.head, slot);
+            let byte = u8::from(Mark::data(false, false));
+            return self.formed(slot, Some(Put { at, byte }));
+        }
+        // The else never comes: `lay` gives Some always, but as an Option, since its definition `laid_of` is one.
+        let Some(Laid { byte, fifo }) = self.lay() else {
+            return self.ends(false, 0x10, slot, None);
+        };
+        let at = self.site.data_place(self.head, slot, done);
+        Formatting { fifo, ..self }.forms(Form::Filling(slot, done + 1), Some(Put { at, byte }))
     }
-    let at = data_place(site, head, slot, done);
-    let byte = laid.byte;
-    let fifo = laid.fifo;
-    forms(
-        Form::Filling(slot, done + 1),
-        site,
-        plan,
-        fifo,
-        Effect::Store { at, byte },
-    )
-}
 
-#[tactic(auto, unfolding(crate::specs::Format::fill_of))]
-fn fill(
-    slot: u8,
-    done: u16,
-    site: Site,
-    plan: Plan,
-    head: u8,
-    fifo: Fifo,
-    efifo: bool,
-    fifothr: u8,
-) -> Step
-    ensures { result ≡ fill_of slot done site plan head fifo efifo fifothr }
-{
-    if sector_bytes(site) <= done as usize {
-        let at = mark_place(site, head, slot);
-        let byte = mark_byte(Mark::Data {
-            deleted: false,
-            broken: false,
-        });
-        return formed(slot, site, plan, head, fifo, Effect::Store { at, byte });
+    #[tactic(auto, unfolding(crate::specs::Format::clear_of))]
+    fn clear(self, slot: u8) -> Step
+        ensures { result ≡ clear_of slot self.site self.plan self.head self.fifo }
+    {
+        let at = self.site.mark_place(self.head, slot);
+        let byte = u8::from(Mark::NoId);
+        self.clear_on(slot, Some(Put { at, byte }))
     }
-    let laid = lay(plan, fifo, efifo, fifothr);
-    put_laid(laid, slot, done, site, plan, head)
-}
 
-#[tactic(auto, unfolding(crate::specs::Format::clear_of))]
-fn clear(slot: u8, site: Site, plan: Plan, head: u8, fifo: Fifo) -> Step
-    ensures { result ≡ clear_of slot site plan head fifo }
-{
-    let at = mark_place(site, head, slot);
-    let byte = mark_byte(Mark::NoId);
-    clear_on(slot, site, plan, head, fifo, Effect::Store { at, byte })
-}
-
-#[tactic(auto, unfolding(crate::specs::Format::form_of))]
-pub fn form_on(
-    form: Form,
-    site: Site,
-    plan: Plan,
-    head: u8,
-    fifo: Fifo,
-    efifo: bool,
-    fifothr: u8,
-) -> Step
-    ensures { result ≡ form_of form site plan head fifo efifo fifothr }
-{
-    match form {
-        Form::Awaiting(slot, wait) => await_address(slot, wait, site, plan, head, fifo),
-        Form::Addressing(slot, k) => address(slot, k, site, plan, head, fifo, efifo, fifothr),
-        Form::Filling(slot, done) => fill(slot, done, site, plan, head, fifo, efifo, fifothr),
-        Form::Clearing(slot) => clear(slot, site, plan, head, fifo),
+    // As in `stage_on`, an enum and a match: the record holds the form as bytes.
+    #[tactic(auto, unfolding(crate::specs::Format::form_of))]
+    pub fn form_on(self, form: Form) -> Step
+        ensures { result
+            ≡ form_of form self.site self.plan self.head self.fifo self.set.efifo self.set.fifothr }
+    {
+        match form {
+            Form::Awaiting(slot, wait) => self.await_address(slot, wait),
+            Form::Addressing(slot, k) => self.address(slot, k),
+            Form::Filling(slot, done) => self.fill(slot, done),
+            Form::Clearing(slot) => self.clear(slot),
+        }
     }
 }

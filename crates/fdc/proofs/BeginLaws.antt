@@ -6,7 +6,7 @@ use mathlib.Core.List.{[], ◌∷◌}
 use mathlib.Core.Path.{◌≡◌, refl}
 use lib.Dec.{ltb}
 use lib.ListN.{replicate}
-use borrow.Author.Tests.{ltb-true, lt-ltb, le-ltb}
+use borrow.Author.Tests.{ltb-true, lt-ltb}
 use Rattle.image.proofs.TestLaws.{by_test}
 use Rattle.fdc.specs.declared.record.Controller.{Controller}
 use Rattle.fdc.specs.Commands.{one_more, gathered_of, configure_of, idled_of}
@@ -15,9 +15,6 @@ use Rattle.fdc.specs.Record.{padded, no_bytes, with_registers, with_fifo, with_b
 -- below nine it is one more, and never above nine
 pub one_more_below : (n : ℕ) → n < 9 → one_more n ≡ n + 1
 one_more_below n h = rw (lt-ltb n 9 h)
-
-pub one_more_full : (n : ℕ) → 9 ≤ n → one_more n ≡ 9
-one_more_full n h = rw (le-ltb n 9 h)
 
 pub one_more_le : (n : ℕ) → one_more n ≤ 9
 one_more_le n =

@@ -1,6 +1,6 @@
 -- The commands: document 01, Commands; and the acceptance of Seek and Recalibrate, Stepping. What ticks do is Ticks.
 -- Assumes nothing.
-use Rattle.std.specs.Prelude.{ℕ, ◌+◌, ◌/◌, ◌%◌, Bool, true, false, not, ◌&&◌, cond, List, [], ◌∷◌, eqb, ltb, get_or, set, replicate}
+use Rattle.std.specs.Prelude.{ℕ, ◌+◌, ◌/◌, ◌%◌, Bool, true, false, not, ◌&&◌, cond, List, [], ◌∷◌, eqb, ltb, get_or, set, replicate, Option, None, Some}
 use Rattle.chip.specs.declared.codes.Entry.{Entry}
 use Rattle.chip.specs.declared.codes.Kind.{Kind}
 use Rattle.chip.specs.declared.codes.Kind.TheVariants.{
@@ -28,6 +28,7 @@ use Rattle.drive.specs.Drive.{sensed_drive}
 use Rattle.sectors.specs.declared.order.Order.{Order}
 use Rattle.sectors.specs.declared.order.Pass.{Pass}
 use Rattle.sectors.specs.declared.order.Pass.TheVariants.{Read, Write}
+use Rattle.sectors.specs.declared.order.Job.{Job}
 use Rattle.sectors.specs.declared.order.Job.TheVariants.{Identify, Move}
 use Rattle.sectors.specs.declared.order.Job.TheVariants as job
 use Rattle.fdc.specs.declared.record.Registers.{Registers}
@@ -112,6 +113,11 @@ lowest a b c d = cond a 0 (cond b 1 (cond c 2 (cond d 3 4)))
 unfoldable pub reporter_of : List Drive → ℕ
 reporter_of drives = lowest (report_at 0 drives) (report_at 1 drives) (report_at 2 drives) (report_at 3 drives)
 
+-- that drive as a number, 4 where there is none
+abbrev pub number_of_reporter : Option ℕ → ℕ
+number_of_reporter None = 4
+number_of_reporter (Some k) = k
+
 -- 01 Commands Sense Interrupt: ST0, PCN: the report of the lowest drive, whose busy bit is cleared; with none 80 alone
 unfoldable pub sensed_of : Controller → Controller
 sensed_of c =
@@ -135,6 +141,10 @@ recalibrated_of c =
     let k = command_byte 1 c % 4 in
     let d = drive_at k c.drives in
     cond d.busy (said_of 0x80 c) (idled_of (with_drive k (recalibrate_of k (step_time c) d) c))
+
+-- side and drive are bits 2 and 1-0 of the second byte
+abbrev pub order_of : ℕ → Job → Order
+order_of second job = record { drive = second % 4; side = second / 4 % 2; job = job }
 
 -- 01 Commands: code, side and drive (bit 2, bits 1-0), C H R N, EOT, GPL, DTL. DTL has its room in the transfer, for a
 -- header with N 0 (02 2026-05): there is none, so it is cleared

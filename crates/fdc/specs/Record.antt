@@ -2,6 +2,7 @@
 -- Assumes nothing.
 use Rattle.std.specs.Prelude.{ℕ, ◌-◌, Bool, true, false, ◌&&◌, List, [], ◌∷◌, ◌++◌, leb, length, get_or, set, replicate}
 use Rattle.chip.specs.declared.fifo.Fifo.{Fifo}
+use Rattle.chip.specs.declared.fifo.Setting.{Setting}
 use Rattle.chip.specs.Fifo.{emptied, within_of}
 use Rattle.drive.specs.declared.Drive.{Drive}
 use Rattle.drive.specs.declared.Motion.TheVariants.{Still}
@@ -29,6 +30,10 @@ fresh_registers =
       fifothr = 0;
       pretrk = 0;
     }
+
+-- 01 Commands Configure: EFIFO and FIFOTHR
+abbrev pub setting_of : Registers → Setting
+setting_of r = record { efifo = r.efifo; fifothr = r.fifothr }
 
 -- 01 Refusals 4: at most seven result bytes
 abbrev pub result_room : ℕ
@@ -97,6 +102,20 @@ head_within k c = leb (drive_at k c.drives).head 81
 
 abbrev countdown_within : ℕ → Controller → Bool
 countdown_within k c = leb (countdown_of (drive_at k c.drives).motion) 1000
+
+-- the same of all four
+abbrev head_in : ℕ → List Drive → Bool
+head_in k drives = leb (drive_at k drives).head 81
+
+abbrev pub heads_within : List Drive → Bool
+heads_within drives = head_in 0 drives && head_in 1 drives && head_in 2 drives && head_in 3 drives
+
+abbrev countdown_in : ℕ → List Drive → Bool
+countdown_in k drives = leb (countdown_of (drive_at k drives).motion) 1000
+
+abbrev pub countdowns_within : List Drive → Bool
+countdowns_within drives =
+    countdown_in 0 drives && countdown_in 1 drives && countdown_in 2 drives && countdown_in 3 drives
 
 -- 01 Refusals 4: no FIFO count above its capacity, not over 9 command or 7 result bytes, no head above 81, FIFOTHR
 -- not above 15, no wait above 64, no step countdown above 1000

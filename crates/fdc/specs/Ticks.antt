@@ -1,7 +1,7 @@
 -- The tick: document 01, What the box models, Stepping, Commands (Sense Drive) and Data commands, whose rules are
 -- the engine's.
 -- Assumes nothing.
-use Rattle.std.specs.Prelude.{ℕ, ◌+◌, ◌%◌, Bool, true, false, ◌&&◌, cond, List, [], ◌∷◌, eqb, ltb}
+use Rattle.std.specs.Prelude.{ℕ, ◌+◌, ◌%◌, Bool, true, false, ◌&&◌, cond, List, [], ◌∷◌, eqb, ltb, None, Some}
 use Rattle.chip.specs.declared.fifo.Fifo.{Fifo}
 use Rattle.drive.specs.declared.Drive.{Drive}
 use Rattle.drive.specs.Drive.{stands_in}
@@ -13,9 +13,7 @@ use Rattle.sectors.specs.declared.work.Then.TheVariants.{Ends, Works}
 use Rattle.sectors.specs.declared.work.Work.{Work}
 use Rattle.engine.specs.First.{begin_of}
 use Rattle.engine.specs.Step.{drive_of, go_on_of}
-use Rattle.image.specs.declared.disk.Disk.{Disk}
-use Rattle.image.specs.declared.disk.Disk.TheVariants.{Absent, Present}
-use Rattle.image.specs.declared.lent.Effect.TheVariants.{Nothing}
+use Rattle.image.specs.Disk.{Disk}
 use Rattle.image.specs.Disk.{disk_in}
 use Rattle.image.specs.Lent.{pick_of, stored_as}
 use Rattle.fdc.specs.declared.record.Phase.{Phase}
@@ -32,16 +30,16 @@ use Rattle.fdc.specs.Registers.{held_in, motor_in}
 
 -- 01 Image mounted: the disk of a drive in its image, if its motor bit is on
 unfoldable pub seen_of : ℕ → ℕ → List ℕ → Disk
-seen_of dor drive img = cond (motor_in dor drive) (disk_in img) Absent
+seen_of dor drive img = cond (motor_in dor drive) (disk_in img) None
 
 abbrev pub present_in : Disk → Bool
-present_in Absent = false
-present_in (Present g) = true
+present_in None = false
+present_in (Some g) = true
 
 -- 01 Commands Sense Drive: an empty drive counts as unprotected
 abbrev pub protected_in : Disk → Bool
-protected_in Absent = false
-protected_in (Present g) = g.protect
+protected_in None = false
+protected_in (Some g) = g.protect
 
 -- 01 Stepping: several drives may step in one tick; drives 2 and 3 are never mounted
 unfoldable pub tick_all : List Drive → Bool → Bool → ℕ → List Drive
@@ -79,7 +77,7 @@ sensed_at unit img c =
 
 -- a tick that leaves both images as they are
 unfoldable pub still_of : Controller → Decision
-still_of c = record { controller = c; drive = 0; effect = Nothing }
+still_of c = record { controller = c; drive = 0; effect = None }
 
 -- 01 Commands: ST0 ST1 ST2 C H R N; or the command goes on
 unfoldable pub settled_of : Then → Fifo → Controller → Controller

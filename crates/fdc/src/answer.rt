@@ -3,9 +3,10 @@ ghost use Rattle.std.specs.Prelude.{◌≡◌};
 ghost use Rattle.fdc.specs.Answer.{value_of, number_in, answer_of};
 
 use crate::record::Controller;
-use chip::refusal::{Refusal, number};
+use chip::refusal::Refusal;
 
-#[derive(Clone, Copy)]
+// 01 Form refusal: three cases, of which the definitions of every call speak; so no Result of an Option.
+#[derive(Clone, Copy, Debug, PartialEq, Eq)]
 pub enum Reply {
     Done,
     Byte(u8),
@@ -21,24 +22,25 @@ pub struct Answer {
     pub controller: Controller,
 }
 
+// 01 Refusals "value 0", as `value_of` and docs/RULES.md have it: 0 and no None where there is no byte.
 pub fn value(reply: Reply) -> u8
     ensures { result ≡ value_of reply }
 {
-    match reply {
-        Reply::Done => 0,
-        Reply::Byte(byte) => byte,
-        Reply::Refused(_) => 0,
+    if let Reply::Byte(byte) = reply {
+        byte
+    } else {
+        0
     }
 }
 
-// The refusal's number, 0 where the call was not refused.
+// 01 Refusals: the refusal's number, 0 and no None where the call was not refused, as `number_in` and docs/RULES.md have it.
 pub fn refusal_number(reply: Reply) -> u8
     ensures { result ≡ number_in reply }
 {
-    match reply {
-        Reply::Done => 0,
-        Reply::Byte(_) => 0,
-        Reply::Refused(refusal) => number(refusal),
+    if let Reply::Refused(refusal) = reply {
+        u8::from(refusal)
+    } else {
+        0
     }
 }
 
@@ -53,5 +55,12 @@ impl Controller {
             drq: self.drq(),
             controller: self,
         }
+    }
+
+    // The record as it is, and why the call was not made.
+    pub(crate) fn refuse(self, refusal: Refusal) -> Answer
+        ensures { result ≡ answer_of (Reply.Refused refusal) self }
+    {
+        self.answer(Reply::Refused(refusal))
     }
 }

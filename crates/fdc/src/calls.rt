@@ -1,6 +1,8 @@
 // The calls (01 Calls) but for the tick. Each takes any record and hands back the new one with its answer; refusal
 // 4 comes first (01 Form refusal).
-ghost use Rattle.std.specs.Prelude.{◌≡◌};
+ghost use Rattle.std.specs.Prelude.{◌≡◌, true, false};
+ghost use Rattle.fdc.specs.Answer.{refused, answer_of};
+ghost use Rattle.fdc.specs.Record.{valid_of};
 ghost use Rattle.fdc.specs.Calls.{power_on, read_port, write_port, dma_read, dma_write, note_change};
 
 use crate::answer::{Answer, Reply};
@@ -9,38 +11,42 @@ use crate::record::Controller;
 use chip::refusal::Refusal;
 
 impl Controller {
+    // The call on a record without a fault; refusal 4 for any other.
+    fn checked<F: FnOnce(Controller) -> Answer>(self, call: F) -> Answer
+        requires { F.IsAlwaysCallable call }
+        ensures called { valid_of self ≡ true → F.post call self result }
+        ensures refused { valid_of self ≡ false → result ≡ answer_of (refused 4) self }
+    {
+        if self.valid() {
+            call(self)
+        } else {
+            self.refuse(Refusal::Damaged)
+        }
+    }
+
     // Power-on with the two heads where they stand.
     #[tactic(auto, unfolding(crate::specs::Calls::power_on))]
     pub fn power_on(head0: u8, head1: u8) -> Answer
         ensures { result ≡ power_on head0 head1 }
     {
-        let good = (head0 <= 81) & (head1 <= 81);
-        if good {
+        if (head0 <= 81) & (head1 <= 81) {
             return Controller::new(head0, head1).answer(Reply::Done);
         }
-        Controller::new(0, 0).answer(Reply::Refused(Refusal::Head))
+        Controller::new(0, 0).refuse(Refusal::Head)
     }
 
     #[tactic(auto, unfolding(crate::specs::Calls::read_port))]
     pub fn read_port(self, offset: u8) -> Answer
         ensures { result ≡ read_port offset self }
     {
-        let valid = self.valid();
-        if valid {
-            return self.read_register(port_of(offset));
-        }
-        self.answer(Reply::Refused(Refusal::Damaged))
+        self.checked(|c| c.read_register(port_of(offset)))
     }
 
     #[tactic(auto, unfolding(crate::specs::Calls::write_port))]
     pub fn write_port(self, offset: u8, byte: u8) -> Answer
         ensures { result ≡ write_port offset byte self }
     {
-        let valid = self.valid();
-        if valid {
-            return self.write_register(port_of(offset), byte);
-        }
-        self.answer(Reply::Refused(Refusal::Damaged))
+        self.checked(|c| c.write_register(port_of(offset), byte))
     }
 
     // To the host.
@@ -48,11 +54,7 @@ impl Controller {
     pub fn dma_read(self, tc: bool) -> Answer
         ensures { result ≡ dma_read tc self }
     {
-        let valid = self.valid();
-        if valid {
-            return self.dma_taken(tc);
-        }
-        self.answer(Reply::Refused(Refusal::Damaged))
+        self.checked(|c| c.dma_taken(tc))
     }
 
     // From the host.
@@ -60,11 +62,7 @@ impl Controller {
     pub fn dma_write(self, byte: u8, tc: bool) -> Answer
         ensures { result ≡ dma_write byte tc self }
     {
-        let valid = self.valid();
-        if valid {
-            return self.dma_given(byte, tc);
-        }
-        self.answer(Reply::Refused(Refusal::Damaged))
+        self.checked(|c| c.dma_given(byte, tc))
     }
 
     // A disk was changed in that drive.
@@ -72,15 +70,12 @@ impl Controller {
     pub fn note_change(self, drive: u8) -> Answer
         ensures { result ≡ note_change drive self }
     {
-        let damaged = !self.valid();
-        if damaged {
-            return self.answer(Reply::Refused(Refusal::Damaged));
-        }
-        let none = 2 <= drive;
-        if none {
-            return self.answer(Reply::Refused(Refusal::Drive));
-        }
-        let d = self.drive(drive);
-        self.with_drive(drive, d.noted()).answer(Reply::Done)
+        self.checked(|c| {
+            if 2 <= drive {
+                return c.refuse(Refusal::Drive);
+            }
+            c.with_drive(drive, c.drive(drive).noted())
+                .answer(Reply::Done)
+        })
     }
 }

@@ -1,5 +1,6 @@
 // Commands (01 Commands): gathered by the table, and carried out or begun once complete.
-ghost use Rattle.std.specs.Prelude.{◌≡◌, set};
+ghost use Rattle.std.specs.Prelude.{◌≡◌, ◌<◌, ◌%◌, ◌≤◌, cond, length, set, IfSome};
+ghost use Rattle.fdc.specs.Record.{result_room, padded, drive_at, with_drive};
 ghost use Rattle.fdc.specs.Commands.{
   answered_of,
   said_of,
@@ -7,8 +8,9 @@ ghost use Rattle.fdc.specs.Commands.{
   idled_of,
   specified_of,
   configured_of,
-  lowest,
+  number_of_reporter,
   reporter_of,
+  order_of,
   move_order,
   format_order,
   identify_order,
@@ -37,78 +39,66 @@ use drive::Drive;
 use image::slot::Id;
 use sectors::order::{Job, Order, Pass, Plan, Transfer};
 
-// Past the end nothing is put.
-fn put(command: [u8; 9], at: usize, byte: u8) -> [u8; 9]
+// Past the end nothing is put. Under a test: with `get_mut` (tried) the proof did not close.
+fn put(mut command: [u8; 9], at: usize, byte: u8) -> [u8; 9]
     ensures { result ≡ set command at byte }
 {
     if at < 9 {
-        let mut c = command;
-        c[at] = byte;
-        return c;
+        command[at] = byte;
     }
     command
 }
 
 // At most nine.
-#[tactic(auto, using(crate::proofs::BeginLaws::one_more_below, crate::proofs::BeginLaws::one_more_full))]
 fn one_more(gathered: u8) -> u8
     ensures { result ≡ one_more gathered }
 {
-    if gathered < 9 { gathered + 1 } else { 9 }
+    gathered.saturating_add(1).min(9)
 }
 
 // Specify's two bytes.
 fn specified(registers: Registers, first: u8, second: u8) -> Registers
     ensures { result ≡ specified_of registers first second }
 {
-    let mut r = registers;
-    r.spec1 = first;
-    r.spec2 = second;
-    r
+    Registers {
+        spec1: first,
+        spec2: second,
+        ..registers
+    }
 }
 
 // EIS 40, EFIFO 20, POLL 10, FIFOTHR; PRETRK.
 fn configured(registers: Registers, byte: u8, track: u8) -> Registers
     ensures { result ≡ configured_of registers byte track }
 {
-    let mut r = registers;
-    r.eis = byte / 64 % 2 == 1;
-    r.efifo = byte / 32 % 2 == 1;
-    r.poll = byte / 16 % 2 == 1;
-    r.fifothr = byte % 16;
-    r.pretrk = track;
-    r
+    Registers {
+        eis: byte / 64 % 2 == 1,
+        efifo: byte / 32 % 2 == 1,
+        poll: byte / 16 % 2 == 1,
+        fifothr: byte % 16,
+        pretrk: track,
+        ..registers
+    }
 }
 
-// The lowest of four that is on, or 4.
-fn lowest_of(a: bool, b: bool, c: bool, d: bool) -> u8
-    ensures { result ≡ lowest a b c d }
-{
-    if a {
-        return 0;
-    }
-    if b {
-        return 1;
-    }
-    if c {
-        return 2;
-    }
-    if d {
-        return 3;
-    }
-    4
-}
-
-// The lowest drive that has a report, or 4.
+// The lowest drive that has a report.
 #[tactic(auto, unfolding(crate::specs::Commands::reporter_of))]
-fn reporter(drives: [Drive; 4]) -> u8
-    ensures { result ≡ reporter_of drives }
+fn reporter(drives: [Drive; 4]) -> Option<usize>
+    ensures value { number_of_reporter result ≡ reporter_of drives }
+    ensures low { IfSome result (λ k. k < 4) }
 {
-    let a = drives[0];
-    let b = drives[1];
-    let c = drives[2];
-    let d = drives[3];
-    lowest_of(a.report != 0, b.report != 0, c.report != 0, d.report != 0)
+    drives.iter().position(|d| d.report != 0)
+}
+
+// Side and drive are bits 2 and 1-0 of a command's second byte.
+fn order_of(second: u8, job: Job) -> Order
+    ensures { result ≡ order_of second job }
+{
+    Order {
+        drive: second % 4,
+        side: second / 4 % 2,
+        job,
+    }
 }
 
 // Code, side and drive, C H R N, EOT, GPL, DTL. DTL has its room in the transfer, for a header with N 0 (02 2026-05):
@@ -131,11 +121,7 @@ fn move_order(command: [u8; 9], pass: Pass, deleted: bool) -> Order
         r: command[4],
         n: command[5],
     };
-    Order {
-        drive: command[1] % 4,
-        side: command[1] / 4 % 2,
-        job: Job::Move(transfer, id),
-    }
+    order_of(command[1], Job::Move(transfer, id))
 }
 
 // Code, side and drive, N, SC, GPL, D.
@@ -148,44 +134,21 @@ fn format_order(command: [u8; 9]) -> Order
         sc: command[3],
         fill: command[5],
     };
-    Order {
-        drive: command[1] % 4,
-        side: command[1] / 4 % 2,
-        job: Job::Format(plan),
-    }
+    order_of(command[1], Job::Format(plan))
 }
 
 #[tactic(auto, unfolding(crate::specs::Commands::identify_order))]
 fn identify_order(command: [u8; 9]) -> Order
     ensures { result ≡ identify_order command }
 {
-    Order {
-        drive: command[1] % 4,
-        side: command[1] / 4 % 2,
-        job: Job::Identify,
-    }
+    order_of(command[1], Job::Identify)
 }
 
 // 01 Commands (house): these three are heard while a drive is busy.
 fn heeds(kind: Kind) -> bool
     ensures { result ≡ heeds_of kind }
 {
-    match kind {
-        Kind::Unknown => false,
-        Kind::ReadData => false,
-        Kind::ReadDeleted => false,
-        Kind::WriteData => false,
-        Kind::WriteDeleted => false,
-        Kind::ReadId => false,
-        Kind::Format => false,
-        Kind::Recalibrate => true,
-        Kind::SenseInterrupt => true,
-        Kind::Specify => false,
-        Kind::SenseDrive => false,
-        Kind::Seek => true,
-        Kind::Version => false,
-        Kind::Configure => false,
-    }
+    matches!(kind, Kind::Seek | Kind::Recalibrate | Kind::SenseInterrupt)
 }
 
 impl Controller {
@@ -194,52 +157,47 @@ impl Controller {
     pub fn answered(self, loud: bool, results: [u8; RESULTS], left: u8) -> Controller
         ensures { result ≡ answered_of loud results left self }
     {
-        let registers = self.registers;
-        let drives = self.drives;
-        let fifo = self.fifo;
-        let bytes = Bytes {
-            command: [0u8; 9],
-            gathered: 0,
-            results,
-            left,
-        };
         Controller {
-            registers,
-            drives,
-            fifo,
-            bytes,
+            bytes: Bytes {
+                results,
+                left,
+                ..Bytes::none()
+            },
             phase: Phase::Answering(loud),
+            ..self
         }
+    }
+
+    // At most seven bytes wait as results, so that the cast keeps their number; `u8` has no `From<usize>`.
+    pub(crate) fn with_results(self, loud: bool, bytes: &[u8]) -> Controller
+        requires { length bytes.now ≤ result_room }
+        ensures { result ≡ answered_of loud (padded bytes.now) (length bytes.now) self }
+    {
+        self.answered(loud, pad(bytes), bytes.len() as u8)
     }
 
     #[tactic(auto, unfolding(crate::specs::Commands::said_of))]
     pub fn say(self, byte: u8) -> Controller
         ensures { result ≡ said_of byte self }
     {
-        self.answered(false, pad(&[byte]), 1)
+        self.with_results(false, &[byte])
     }
 
     #[tactic(auto, unfolding(crate::specs::Commands::said_two))]
     fn say_two(self, first: u8, second: u8) -> Controller
         ensures { result ≡ said_two first second self }
     {
-        self.answered(false, pad(&[first, second]), 2)
+        self.with_results(false, &[first, second])
     }
 
     #[tactic(auto, unfolding(crate::specs::Commands::idled_of))]
     pub fn idled(self) -> Controller
         ensures { result ≡ idled_of self }
     {
-        let registers = self.registers;
-        let drives = self.drives;
-        let fifo = self.fifo;
-        let bytes = Bytes::none();
         Controller {
-            registers,
-            drives,
-            fifo,
-            bytes,
+            bytes: Bytes::none(),
             phase: Phase::Idle,
+            ..self
         }
     }
 
@@ -254,18 +212,17 @@ impl Controller {
     fn specify(self) -> Controller
         ensures { result ≡ specify_of self }
     {
-        let bytes = self.bytes;
-        let registers = specified(self.registers, bytes.command[1], bytes.command[2]);
-        self.with_registers(registers).idled()
+        let command = self.bytes.command;
+        self.with_registers(specified(self.registers, command[1], command[2]))
+            .idled()
     }
 
     #[tactic(auto, unfolding(crate::specs::Commands::configure_of))]
     fn configure(self) -> Controller
         ensures { result ≡ configure_of self }
     {
-        let bytes = self.bytes;
-        let registers = configured(self.registers, bytes.command[2], bytes.command[3]);
-        self.with_registers(registers)
+        let command = self.bytes.command;
+        self.with_registers(configured(self.registers, command[2], command[3]))
             .with_fifo(Fifo::empty())
             .idled()
     }
@@ -274,81 +231,61 @@ impl Controller {
     fn sense_drive(self) -> Controller
         ensures { result ≡ sensing_of self }
     {
-        let bytes = self.bytes;
         self.idled()
-            .with_phase(Phase::Sensing(bytes.command[1] % 8))
+            .with_phase(Phase::Sensing(self.bytes.command[1] % 8))
     }
 
     // The report of the lowest drive and its PCN; with none 80 alone.
-    #[tactic(auto, unfolding(crate::specs::Commands::sensed_of))]
+    #[tactic(auto, unfolding(crate::specs::Commands::sensed_of, crate::specs::Record::with_drive))]
     fn sense_interrupt(self) -> Controller
         ensures { result ≡ sensed_of self }
     {
-        let drives = self.drives;
-        let k = reporter(drives);
-        let none = k == 4;
-        if none {
+        let Some(k) = reporter(self.drives) else {
             return self.say(0x80);
-        }
-        let d = self.drive(k);
-        self.with_drive(k, d.sensed()).say_two(d.report, d.pcn)
+        };
+        let mut drives = self.drives;
+        let d = drives[k];
+        drives[k] = d.sensed();
+        self.with_drives(drives).say_two(d.report, d.pcn)
     }
 
-    // 80 for a busy drive.
+    // 80 for a busy drive; any other sets off as `moved`.
+    fn set_off(self, unit: u8, moved: Drive) -> Controller
+        ensures { result ≡ cond (drive_at (unit % 4) self.drives).busy (said_of 0x80 self) (idled_of (with_drive (unit % 4) moved self)) }
+    {
+        if self.drive(unit).busy {
+            return self.say(0x80);
+        }
+        self.with_drive(unit, moved).idled()
+    }
+
     #[tactic(auto, unfolding(crate::specs::Commands::sought_of))]
     fn seek(self) -> Controller
         ensures { result ≡ sought_of self }
     {
-        let bytes = self.bytes;
-        let unit = bytes.command[1];
-        let d = self.drive(unit);
-        let busy = d.busy;
-        if busy {
-            return self.say(0x80);
-        }
-        let moved = d.seek(bytes.command[2], step_ticks(self.registers.spec1));
-        self.with_drive(unit, moved).idled()
+        let command = self.bytes.command;
+        let d = self.drive(command[1]);
+        let moved = d.seek(command[2], step_ticks(self.registers.spec1));
+        self.set_off(command[1], moved)
     }
 
     #[tactic(auto, unfolding(crate::specs::Commands::recalibrated_of))]
     fn recalibrate(self) -> Controller
         ensures { result ≡ recalibrated_of self }
     {
-        let bytes = self.bytes;
-        let unit = bytes.command[1];
+        let unit = self.bytes.command[1] % 4;
         let d = self.drive(unit);
-        let busy = d.busy;
-        if busy {
-            return self.say(0x80);
-        }
-        let moved = d.recalibrate(unit % 4, step_ticks(self.registers.spec1));
-        self.with_drive(unit, moved).idled()
+        let moved = d.recalibrate(unit, step_ticks(self.registers.spec1));
+        self.set_off(unit, moved)
     }
 
     fn move_sectors(self, pass: Pass, deleted: bool) -> Controller
         ensures { result ≡ started_of (move_order self.bytes.command pass deleted) self }
     {
-        let bytes = self.bytes;
-        let command = bytes.command;
-        self.started(move_order(command, pass, deleted))
+        self.started(move_order(self.bytes.command, pass, deleted))
     }
 
-    fn read_id(self) -> Controller
-        ensures { result ≡ started_of (identify_order self.bytes.command) self }
-    {
-        let bytes = self.bytes;
-        let command = bytes.command;
-        self.started(identify_order(command))
-    }
-
-    fn format(self) -> Controller
-        ensures { result ≡ started_of (format_order self.bytes.command) self }
-    {
-        let bytes = self.bytes;
-        let command = bytes.command;
-        self.started(format_order(command))
-    }
-
+    // The kind comes beside the record, as `ran_of` has it.
     #[tactic(auto, unfolding(crate::specs::Commands::ran_of))]
     fn carry_out(self, kind: Kind) -> Controller
         ensures { result ≡ ran_of kind self }
@@ -359,8 +296,8 @@ impl Controller {
             Kind::ReadDeleted => self.move_sectors(Pass::Read, true),
             Kind::WriteData => self.move_sectors(Pass::Write, false),
             Kind::WriteDeleted => self.move_sectors(Pass::Write, true),
-            Kind::ReadId => self.read_id(),
-            Kind::Format => self.format(),
+            Kind::ReadId => self.started(identify_order(self.bytes.command)),
+            Kind::Format => self.started(format_order(self.bytes.command)),
             Kind::Recalibrate => self.recalibrate(),
             Kind::SenseInterrupt => self.sense_interrupt(),
             Kind::Specify => self.specify(),
@@ -376,9 +313,7 @@ impl Controller {
     fn run(self, kind: Kind) -> Controller
         ensures { result ≡ run_of kind self }
     {
-        let drives = self.drives;
-        let blocked = any_busy(drives) & !heeds(kind);
-        if blocked {
+        if any_busy(self.drives) & !heeds(kind) {
             return self.say(0x80);
         }
         self.carry_out(kind)
@@ -390,15 +325,11 @@ impl Controller {
         ensures { result ≡ gathered_of byte self }
     {
         let old = self.bytes;
-        let before = old.command;
-        let results = old.results;
-        let bytes = Bytes {
-            command: put(before, old.gathered as usize, byte),
+        self.with_bytes(Bytes {
+            command: put(old.command, usize::from(old.gathered), byte),
             gathered: one_more(old.gathered),
-            results,
-            left: old.left,
-        };
-        self.with_bytes(bytes)
+            ..old
+        })
     }
 
     // With the bytes so far the command runs, or waits for more.
@@ -406,12 +337,10 @@ impl Controller {
     pub fn go_on(self, entry: Entry) -> Controller
         ensures { result ≡ goes_on entry self }
     {
-        let kind = entry.kind;
-        let more = self.bytes.gathered < entry.bytes;
-        if more {
+        if self.bytes.gathered < entry.bytes {
             return self.with_phase(Phase::Gathering(entry));
         }
-        self.run(kind)
+        self.run(entry.kind)
     }
 
     // The first byte of a command, whatever was held.

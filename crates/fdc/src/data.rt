@@ -1,7 +1,9 @@
 // The data register and the DMA cycles (01 Refusals 2 and 3; 01 FIFO): command bytes, results, and a command's own
 // bytes.
-ghost use Rattle.std.specs.Prelude.{◌≡◌, ◌-◌};
-ghost use Rattle.engine.specs.Step.{to_host, from_host};
+ghost use Rattle.std.specs.Prelude.{◌≡◌};
+ghost use Rattle.chip.specs.Fifo.{handed_of, taken_of};
+ghost use Rattle.fdc.specs.Answer.{answer_of};
+ghost use Rattle.fdc.specs.Record.{with_fifo};
 ghost use Rattle.fdc.specs.Data.{
   shifted,
   result_taken,
@@ -22,87 +24,51 @@ use crate::record::{Controller, Phase, RESULTS, pad};
 use chip::refusal::Refusal;
 use engine::flow::{Flow, hears_tc};
 
-fn one_less(n: u8) -> u8
-    ensures { result ≡ n - 1 }
-{
-    if 0 < n { n - 1 } else { 0 }
-}
-
 // The results behind the first, so that what is left is all that is held.
-#[tactic(auto, using(crate::proofs::PadLaws::rest_fits, crate::proofs::PadLaws::rest_is))]
 fn shift(bytes: [u8; RESULTS]) -> [u8; RESULTS]
     ensures { result ≡ shifted bytes }
 {
     pad(&bytes[1..])
 }
 
-fn to_host(flow: Flow) -> bool
-    ensures { result ≡ to_host flow }
-{
-    match flow {
-        Flow::Quiet => false,
-        Flow::ToHost => true,
-        Flow::FromHost => false,
-    }
-}
-
-fn from_host(flow: Flow) -> bool
-    ensures { result ≡ from_host flow }
-{
-    match flow {
-        Flow::Quiet => false,
-        Flow::ToHost => false,
-        Flow::FromHost => true,
-    }
-}
-
 fn phase_hears(phase: Phase) -> bool
     ensures { result ≡ phase_hears phase }
 {
-    match phase {
-        Phase::Idle => false,
-        Phase::Gathering(_) => false,
-        Phase::Starting(_) => false,
-        Phase::Working(work) => hears_tc(work),
-        Phase::Sensing(_) => false,
-        Phase::Answering(_) => false,
-    }
+    matches!(phase, Phase::Working(work) if hears_tc(work))
 }
 
 impl Controller {
+    // The host is handed the oldest byte of the FIFO.
+    fn handed(self, tc: bool) -> Answer
+        ensures { result ≡ answer_of (Reply.Byte (handed_of self.fifo)) (with_fifo (taken_of tc self.fifo) self) }
+    {
+        let byte = self.fifo.handed();
+        self.with_fifo(self.fifo.taken(tc))
+            .answer(Reply::Byte(byte))
+    }
+
     // After the last result byte it is idle.
     #[tactic(auto, unfolding(crate::specs::Data::result_taken))]
     fn result_taken(self) -> Controller
         ensures { result ≡ result_taken self }
     {
-        let bytes = self.bytes;
-        let last = bytes.left <= 1;
-        if last {
+        if self.bytes.left <= 1 {
             return self.idled();
         }
-        let results = bytes.results;
-        self.answered(false, shift(results), one_less(bytes.left))
+        self.answered(false, shift(self.bytes.results), self.bytes.left - 1)
     }
 
     #[tactic(auto, unfolding(crate::specs::Data::read_in))]
-    fn read_in(self, phase: Phase) -> Answer
-        ensures { result ≡ read_in phase self }
+    fn read_in(self) -> Answer
+        ensures { result ≡ read_in self.phase self }
     {
-        match phase {
-            Phase::Idle => self.answer(Reply::Refused(Refusal::Turn)),
-            Phase::Gathering(_) => self.answer(Reply::Refused(Refusal::Turn)),
-            Phase::Starting(_) => self.answer(Reply::Refused(Refusal::Turn)),
-            Phase::Working(_) => {
-                let byte = self.fifo.handed();
-                self.with_fifo(self.fifo.taken(false))
-                    .answer(Reply::Byte(byte))
-            }
-            Phase::Sensing(_) => self.answer(Reply::Refused(Refusal::Turn)),
+        match self.phase {
+            Phase::Working(_) => self.handed(false),
             Phase::Answering(_) => {
-                let bytes = self.bytes;
-                let byte = bytes.results[0];
+                let byte = self.bytes.results[0];
                 self.result_taken().answer(Reply::Byte(byte))
             }
+            _ => self.refuse(Refusal::Turn),
         }
     }
 
@@ -111,25 +77,21 @@ impl Controller {
     pub fn read_fifo(self) -> Answer
         ensures { result ≡ read_fifo self }
     {
-        let turn = self.msr() / 64 == 3;
-        if turn {
-            let phase = self.phase;
-            return self.read_in(phase);
+        if self.msr() / 64 == 3 {
+            return self.read_in();
         }
-        self.answer(Reply::Refused(Refusal::Turn))
+        self.refuse(Refusal::Turn)
     }
 
     #[tactic(auto, unfolding(crate::specs::Data::offered_of))]
-    fn offer(self, phase: Phase, byte: u8) -> Controller
-        ensures { result ≡ offered_of phase byte self }
+    fn offer(self, byte: u8) -> Controller
+        ensures { result ≡ offered_of self.phase byte self }
     {
-        match phase {
+        match self.phase {
             Phase::Idle => self.begin(byte),
             Phase::Gathering(entry) => self.gathered(byte).go_on(entry),
-            Phase::Starting(_) => self,
             Phase::Working(_) => self.with_fifo(self.fifo.given(self.registers.efifo, false, byte)),
-            Phase::Sensing(_) => self,
-            Phase::Answering(_) => self,
+            Phase::Starting(_) | Phase::Sensing(_) | Phase::Answering(_) => self,
         }
     }
 
@@ -138,28 +100,22 @@ impl Controller {
     pub fn write_fifo(self, byte: u8) -> Answer
         ensures { result ≡ write_fifo byte self }
     {
-        let turn = self.msr() / 64 == 2;
-        if turn {
-            let phase = self.phase;
-            return self.offer(phase, byte).answer(Reply::Done);
+        if self.msr() / 64 == 2 {
+            return self.offer(byte).answer(Reply::Done);
         }
-        self.answer(Reply::Refused(Refusal::Turn))
+        self.refuse(Refusal::Turn)
     }
 
-    // A byte moved the way the flow goes.
+    // A byte moved the way the flow goes, which comes beside the record, as `moved_of` has it.
     #[tactic(auto, unfolding(crate::specs::Data::moved_of))]
     fn moved(self, flow: Flow, byte: u8, tc: bool) -> Answer
         ensures { result ≡ moved_of flow byte tc self }
     {
         match flow {
-            Flow::Quiet => self.answer(Reply::Refused(Refusal::Line)),
-            Flow::ToHost => {
-                let out = self.fifo.handed();
-                self.with_fifo(self.fifo.taken(tc)).answer(Reply::Byte(out))
-            }
+            Flow::Quiet => self.refuse(Refusal::Line),
+            Flow::ToHost => self.handed(tc),
             Flow::FromHost => {
-                let phase = self.phase;
-                let counts = tc & phase_hears(phase);
+                let counts = tc & phase_hears(self.phase);
                 self.with_fifo(self.fifo.given(self.registers.efifo, counts, byte))
                     .answer(Reply::Done)
             }
@@ -171,35 +127,30 @@ impl Controller {
     fn cycle(self, byte: u8, tc: bool) -> Answer
         ensures { result ≡ cycle_of byte tc self }
     {
-        let line = self.drq();
-        if line {
-            let phase = self.phase;
-            return self.moved(phase_flow(phase), byte, tc);
+        if self.drq() {
+            return self.moved(phase_flow(self.phase), byte, tc);
         }
-        self.answer(Reply::Refused(Refusal::Line))
+        self.refuse(Refusal::Line)
     }
 
+    // The two directions, a match each: one function with a flag for the direction is no plainer.
     #[tactic(auto, unfolding(crate::specs::Data::dma_read_of))]
     pub fn dma_taken(self, tc: bool) -> Answer
         ensures { result ≡ dma_read_of tc self }
     {
-        let phase = self.phase;
-        let mine = to_host(phase_flow(phase));
-        if mine {
-            return self.cycle(0, tc);
+        match phase_flow(self.phase) {
+            Flow::ToHost => self.cycle(0, tc),
+            _ => self.refuse(Refusal::Line),
         }
-        self.answer(Reply::Refused(Refusal::Line))
     }
 
     #[tactic(auto, unfolding(crate::specs::Data::dma_write_of))]
     pub fn dma_given(self, byte: u8, tc: bool) -> Answer
         ensures { result ≡ dma_write_of byte tc self }
     {
-        let phase = self.phase;
-        let mine = from_host(phase_flow(phase));
-        if mine {
-            return self.cycle(byte, tc);
+        match phase_flow(self.phase) {
+            Flow::FromHost => self.cycle(byte, tc),
+            _ => self.refuse(Refusal::Line),
         }
-        self.answer(Reply::Refused(Refusal::Line))
     }
 }

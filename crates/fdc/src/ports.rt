@@ -6,9 +6,8 @@ use crate::answer::{Answer, Reply};
 use crate::record::Controller;
 use chip::refusal::Refusal;
 
-#[derive(Clone, Copy)]
+#[derive(Clone, Copy, Debug, PartialEq, Eq)]
 pub enum Port {
-    None,
     Dor,
     Tdr,
     Status,
@@ -17,45 +16,45 @@ pub enum Port {
 }
 
 #[tactic(auto, unfolding(crate::specs::Calls::port_of))]
-pub fn port_of(offset: u8) -> Port
+pub fn port_of(offset: u8) -> Option<Port>
     ensures { result ≡ port_of offset }
 {
     match offset {
-        2 => Port::Dor,
-        3 => Port::Tdr,
-        4 => Port::Status,
-        5 => Port::Data,
-        7 => Port::Input,
-        _ => Port::None,
+        2 => Some(Port::Dor),
+        3 => Some(Port::Tdr),
+        4 => Some(Port::Status),
+        5 => Some(Port::Data),
+        7 => Some(Port::Input),
+        _ => None,
     }
 }
 
 impl Controller {
     #[tactic(auto, unfolding(crate::specs::Calls::read_reg))]
-    pub fn read_register(self, port: Port) -> Answer
+    pub fn read_register(self, port: Option<Port>) -> Answer
         ensures { result ≡ read_reg port self }
     {
         match port {
-            Port::None => self.answer(Reply::Refused(Refusal::Port)),
-            Port::Dor => self.answer(Reply::Byte(self.registers.dor)),
-            Port::Tdr => self.answer(Reply::Byte(self.registers.tdr % 4)),
-            Port::Status => self.answer(Reply::Byte(self.msr())),
-            Port::Data => self.read_fifo(),
-            Port::Input => self.answer(Reply::Byte(self.dir())),
+            Some(Port::Dor) => self.answer(Reply::Byte(self.registers.dor)),
+            Some(Port::Tdr) => self.answer(Reply::Byte(self.registers.tdr % 4)),
+            Some(Port::Status) => self.answer(Reply::Byte(self.msr())),
+            Some(Port::Data) => self.read_fifo(),
+            Some(Port::Input) => self.answer(Reply::Byte(self.dir())),
+            None => self.refuse(Refusal::Port),
         }
     }
 
     #[tactic(auto, unfolding(crate::specs::Calls::write_reg))]
-    pub fn write_register(self, port: Port, byte: u8) -> Answer
+    pub fn write_register(self, port: Option<Port>, byte: u8) -> Answer
         ensures { result ≡ write_reg port byte self }
     {
         match port {
-            Port::None => self.answer(Reply::Refused(Refusal::Port)),
-            Port::Dor => self.write_dor(byte).answer(Reply::Done),
-            Port::Tdr => self.with_tdr(byte).answer(Reply::Done),
-            Port::Status => self.write_dsr(byte).answer(Reply::Done),
-            Port::Data => self.write_fifo(byte),
-            Port::Input => self.with_rate(byte).answer(Reply::Done),
+            Some(Port::Dor) => self.write_dor(byte).answer(Reply::Done),
+            Some(Port::Tdr) => self.with_tdr(byte).answer(Reply::Done),
+            Some(Port::Status) => self.write_dsr(byte).answer(Reply::Done),
+            Some(Port::Data) => self.write_fifo(byte),
+            Some(Port::Input) => self.with_rate(byte).answer(Reply::Done),
+            None => self.refuse(Refusal::Port),
         }
     }
 }

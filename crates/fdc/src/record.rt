@@ -3,6 +3,7 @@
 ghost use Rattle.std.specs.Prelude.{◌≡◌, ◌%◌, ◌≤◌, length};
 ghost use Rattle.fdc.specs.Record.{
   fresh_registers,
+  setting_of,
   result_room,
   padded,
   no_bytes,
@@ -15,17 +16,19 @@ ghost use Rattle.fdc.specs.Record.{
   drive_at,
   with_drive,
   phase_wait,
+  heads_within,
+  countdowns_within,
   valid_of,
 };
 
 use chip::codes::Entry;
-use chip::fifo::Fifo;
+use chip::fifo::{Fifo, Setting};
 use drive::Drive;
 use engine::flow::wait_of;
 use sectors::order::Order;
 use sectors::work::Work;
 
-#[derive(Clone, Copy)]
+#[derive(Clone, Copy, Debug, PartialEq, Eq)]
 pub struct Registers {
     pub dor: u8,
     pub tdr: u8,
@@ -43,8 +46,9 @@ pub struct Registers {
 // The room of result bytes (01 Refusals 4).
 pub const RESULTS: usize = 7;
 
-// Command bytes gathered, and result bytes left, the next one first. What is not in use is 0.
-#[derive(Clone, Copy)]
+// Command bytes gathered, and result bytes left, the next one first. What is not in use is 0. Two arrays with their
+// counts: the record has no heap, and refusal 4 is of counts past the arrays' ends.
+#[derive(Clone, Copy, Debug, PartialEq, Eq)]
 pub struct Bytes {
     pub command: [u8; 9],
     pub gathered: u8,
@@ -76,31 +80,37 @@ pub struct Controller {
 }
 
 // Result bytes with zeros behind them, up to their room.
-#[tactic(auto, using(crate::proofs::PadLaws::one_more_lem, crate::proofs::PadLaws::all_in))]
 pub(crate) fn pad(bytes: &[u8]) -> [u8; RESULTS]
     requires { length bytes.now ≤ result_room }
     ensures { result ≡ padded bytes.now }
 {
-    let mut room = [0u8; RESULTS];
-    let mut k = 0;
-    while k < bytes.len() {
-        room[k] = bytes[k];
-        k += 1;
-    }
+    let mut room = [0; RESULTS];
+    room[..bytes.len()].copy_from_slice(bytes);
     room
 }
 
 fn phase_wait(phase: Phase) -> u8
     ensures { result ≡ phase_wait phase }
 {
-    match phase {
-        Phase::Idle => 0,
-        Phase::Gathering(_) => 0,
-        Phase::Starting(_) => 0,
-        Phase::Working(work) => wait_of(work),
-        Phase::Sensing(_) => 0,
-        Phase::Answering(_) => 0,
+    if let Phase::Working(work) = phase {
+        wait_of(work)
+    } else {
+        0
     }
+}
+
+fn heads_within(drives: [Drive; 4]) -> bool
+    ensures { result ≡ heads_within drives }
+{
+    drives.iter().all(|d| d.head <= 81)
+}
+
+// By `map` and not by `all`: there (tried) the proof doesn't close.
+fn countdowns_within(drives: [Drive; 4]) -> bool
+    ensures { result ≡ countdowns_within drives }
+{
+    let [a, b, c, d] = drives.map(|d| d.countdown() <= 1000);
+    a & b & c & d
 }
 
 impl Registers {
@@ -139,6 +149,17 @@ impl Registers {
             pretrk: Registers::PRETRK,
         }
     }
+
+    // How Configure has set the FIFO. Its two fields are fields of the record too, as `setting_of` and `configured_of` have
+    // them.
+    pub fn setting(self) -> Setting
+        ensures { result ≡ setting_of self }
+    {
+        Setting {
+            efifo: self.efifo,
+            fifothr: self.fifothr,
+        }
+    }
 }
 
 impl Bytes {
@@ -146,9 +167,9 @@ impl Bytes {
         ensures { result ≡ no_bytes }
     {
         Bytes {
-            command: [0u8; 9],
+            command: [0; 9],
             gathered: 0,
-            results: [0u8; RESULTS],
+            results: [0; RESULTS],
             left: 0,
         }
     }
@@ -160,20 +181,11 @@ impl Controller {
     pub fn new(head0: u8, head1: u8) -> Controller
         ensures { result ≡ fresh_of head0 head1 }
     {
-        let registers = Registers::new();
-        let bytes = Bytes::none();
-        let fifo = Fifo::empty();
-        let drives = [
-            Drive::new(head0),
-            Drive::new(head1),
-            Drive::new(0),
-            Drive::new(0),
-        ];
         Controller {
-            registers,
-            drives,
-            fifo,
-            bytes,
+            registers: Registers::new(),
+            drives: [head0, head1, 0, 0].map(Drive::new),
+            fifo: Fifo::empty(),
+            bytes: Bytes::none(),
             phase: Phase::Idle,
         }
     }
@@ -182,62 +194,42 @@ impl Controller {
     pub fn with_registers(self, registers: Registers) -> Controller
         ensures { result ≡ with_registers registers self }
     {
-        let mut c = self;
-        c.registers = registers;
-        c
+        Controller { registers, ..self }
     }
 
     #[tactic(auto, unfolding(crate::specs::Record::with_drives))]
     pub fn with_drives(self, drives: [Drive; 4]) -> Controller
         ensures { result ≡ with_drives drives self }
     {
-        let mut c = self;
-        c.drives = drives;
-        c
+        Controller { drives, ..self }
     }
 
     #[tactic(auto, unfolding(crate::specs::Record::with_fifo))]
     pub fn with_fifo(self, fifo: Fifo) -> Controller
         ensures { result ≡ with_fifo fifo self }
     {
-        let mut c = self;
-        c.fifo = fifo;
-        c
+        Controller { fifo, ..self }
     }
 
     #[tactic(auto, unfolding(crate::specs::Record::with_bytes))]
     pub fn with_bytes(self, bytes: Bytes) -> Controller
         ensures { result ≡ with_bytes bytes self }
     {
-        let mut c = self;
-        c.bytes = bytes;
-        c
+        Controller { bytes, ..self }
     }
 
     #[tactic(auto, unfolding(crate::specs::Record::with_phase))]
     pub fn with_phase(self, phase: Phase) -> Controller
         ensures { result ≡ with_phase phase self }
     {
-        let registers = self.registers;
-        let drives = self.drives;
-        let fifo = self.fifo;
-        let bytes = self.bytes;
-        Controller {
-            registers,
-            drives,
-            fifo,
-            bytes,
-            phase,
-        }
+        Controller { phase, ..self }
     }
 
     // The drive that two bits name.
     pub fn drive(self, number: u8) -> Drive
         ensures { result ≡ drive_at (number % 4) self.drives }
     {
-        let drives = self.drives;
-        let k = (number % 4) as usize;
-        drives[k]
+        self.drives[usize::from(number % 4)]
     }
 
     #[tactic(auto, unfolding(crate::specs::Record::with_drive))]
@@ -245,8 +237,7 @@ impl Controller {
         ensures { result ≡ with_drive (number % 4) d self }
     {
         let mut drives = self.drives;
-        let k = (number % 4) as usize;
-        drives[k] = d;
+        drives[usize::from(number % 4)] = d;
         self.with_drives(drives)
     }
 
@@ -255,24 +246,12 @@ impl Controller {
     pub fn valid(self) -> bool
         ensures { result ≡ valid_of self }
     {
-        let drives = self.drives;
-        let a = drives[0];
-        let b = drives[1];
-        let c = drives[2];
-        let d = drives[3];
-        let phase = self.phase;
         self.fifo.within(self.registers.efifo)
             & (self.bytes.gathered <= 9)
-            & (self.bytes.left as usize <= RESULTS)
-            & (a.head <= 81)
-            & (b.head <= 81)
-            & (c.head <= 81)
-            & (d.head <= 81)
+            & (usize::from(self.bytes.left) <= RESULTS)
+            & heads_within(self.drives)
             & (self.registers.fifothr <= 15)
-            & (phase_wait(phase) <= 64)
-            & (a.countdown() <= 1000)
-            & (b.countdown() <= 1000)
-            & (c.countdown() <= 1000)
-            & (d.countdown() <= 1000)
+            & (phase_wait(self.phase) <= 64)
+            & countdowns_within(self.drives)
     }
 }

@@ -5,7 +5,6 @@ ghost use Rattle.fdc.specs.Reset.{
   reset_all,
   report_all,
   reset_of,
-  released_by,
   released_of,
   with_dor,
   with_tdr,
@@ -18,43 +17,33 @@ use crate::lines::held;
 use crate::record::{Bytes, Controller, Phase, Registers};
 use chip::fifo::Fifo;
 use drive::Drive;
+use std::array::from_fn;
 
 // EFIFO, FIFOTHR and PRETRK take power-on values; all else stays.
 fn reset_fifo_part(registers: Registers) -> Registers
     ensures { result ≡ reset_fifo_part registers }
 {
-    let mut r = registers;
-    r.efifo = Registers::EFIFO;
-    r.fifothr = Registers::FIFOTHR;
-    r.pretrk = Registers::PRETRK;
-    r
+    Registers {
+        efifo: Registers::EFIFO,
+        fifothr: Registers::FIFOTHR,
+        pretrk: Registers::PRETRK,
+        ..registers
+    }
 }
 
 #[tactic(auto, unfolding(crate::specs::Reset::reset_all))]
 fn reset_all(drives: [Drive; 4]) -> [Drive; 4]
     ensures { result ≡ reset_all drives }
 {
-    let a = drives[0];
-    let b = drives[1];
-    let c = drives[2];
-    let d = drives[3];
-    [a.reset(), b.reset(), c.reset(), d.reset()]
+    drives.map(|d| d.reset())
 }
 
+// The index is below 4; `u8` has no `From<usize>`.
 #[tactic(auto, unfolding(crate::specs::Reset::report_all))]
 fn report_all(drives: [Drive; 4]) -> [Drive; 4]
     ensures { result ≡ report_all drives }
 {
-    let a = drives[0];
-    let b = drives[1];
-    let c = drives[2];
-    let d = drives[3];
-    [
-        a.reported(0xC0),
-        b.reported(0xC1),
-        c.reported(0xC2),
-        d.reported(0xC3),
-    ]
+    from_fn(|k| drives[k].reported(0xC0 + k as u8))
 }
 
 impl Controller {
@@ -62,64 +51,54 @@ impl Controller {
     pub fn reset(self) -> Controller
         ensures { result ≡ reset_of self }
     {
-        let registers = reset_fifo_part(self.registers);
-        let before = self.drives;
-        let drives = reset_all(before);
-        let fifo = Fifo::empty();
-        let bytes = Bytes::none();
         Controller {
-            registers,
-            drives,
-            fifo,
-            bytes,
+            registers: reset_fifo_part(self.registers),
+            drives: reset_all(self.drives),
+            fifo: Fifo::empty(),
+            bytes: Bytes::none(),
             phase: Phase::Idle,
         }
     }
 
-    #[tactic(auto, unfolding(crate::specs::Reset::released_by))]
-    fn release_by(self, poll: bool) -> Controller
-        ensures { result ≡ released_by poll self }
-    {
-        if poll {
-            return self;
-        }
-        let drives = self.drives;
-        self.with_drives(report_all(drives))
-    }
-
     // POLL 0 gives each of drives 0 to 3 a report.
-    #[tactic(auto, unfolding(crate::specs::Reset::released_of))]
+    #[tactic(auto, unfolding(crate::specs::Reset::released_of, crate::specs::Reset::released_by))]
     fn release(self) -> Controller
         ensures { result ≡ released_of self }
     {
-        self.release_by(self.registers.poll)
+        if self.registers.poll {
+            return self;
+        }
+        self.with_drives(report_all(self.drives))
     }
 
     #[tactic(auto, unfolding(crate::specs::Reset::with_dor))]
     fn with_dor(self, byte: u8) -> Controller
         ensures { result ≡ with_dor byte self }
     {
-        let mut r = self.registers;
-        r.dor = byte;
-        self.with_registers(r)
+        self.with_registers(Registers {
+            dor: byte,
+            ..self.registers
+        })
     }
 
     #[tactic(auto, unfolding(crate::specs::Reset::with_tdr))]
     pub fn with_tdr(self, byte: u8) -> Controller
         ensures { result ≡ with_tdr byte self }
     {
-        let mut r = self.registers;
-        r.tdr = byte % 4;
-        self.with_registers(r)
+        self.with_registers(Registers {
+            tdr: byte % 4,
+            ..self.registers
+        })
     }
 
     #[tactic(auto, unfolding(crate::specs::Reset::with_rate))]
     pub fn with_rate(self, byte: u8) -> Controller
         ensures { result ≡ with_rate byte self }
     {
-        let mut r = self.registers;
-        r.rate = byte % 4;
-        self.with_registers(r)
+        self.with_registers(Registers {
+            rate: byte % 4,
+            ..self.registers
+        })
     }
 
     // Bit 2 low resets; going high it releases.
@@ -127,12 +106,10 @@ impl Controller {
     pub fn write_dor(self, byte: u8) -> Controller
         ensures { result ≡ wrote_dor byte self }
     {
-        let low = held(byte);
-        if low {
+        if held(byte) {
             return self.reset().with_dor(byte);
         }
-        let was = held(self.registers.dor);
-        if was {
+        if held(self.registers.dor) {
             return self.release().with_dor(byte);
         }
         self.with_dor(byte)

@@ -1,9 +1,8 @@
 // The tick (01 Calls, Stepping, Data commands): the drives step, then the command at work decides from the record
-// and the image picked, and then its one store is made.
+// and the image picked, and then its one store is made. The images stay two slices, as a call lends them (01 Calls).
 ghost use Rattle.std.specs.Prelude.{◌≡◌, cond, ◌≤◌, length};
 ghost use Rattle.fdc.specs.Ticks.{
   seen_of,
-  present_in,
   protected_in,
   tick_all,
   all_stand,
@@ -23,7 +22,7 @@ ghost use Rattle.fdc.specs.Ticks.{
 
 use crate::answer::{Answer, Reply};
 use crate::lines::{held, motor};
-use crate::record::{Controller, Phase, pad};
+use crate::record::{Controller, Phase};
 use chip::fifo::Fifo;
 use chip::refusal::Refusal;
 use chip::step::step_ticks;
@@ -31,8 +30,9 @@ use drive::Drive;
 use engine::first::begin;
 use engine::flow::drive_of;
 use engine::step::go_on;
-use image::disk::{Disk, disk_in};
-use image::lent::{Effect, pick, store};
+use image::disk::disk_in;
+use image::layout::Geometry;
+use image::lent::{Put, pick, store};
 use sectors::order::Order;
 use sectors::work::{Step, Then, Work};
 
@@ -41,49 +41,30 @@ use sectors::work::{Step, Then, Work};
 pub struct Decision {
     pub controller: Controller,
     pub drive: u8,
-    pub effect: Effect,
+    pub effect: Option<Put>,
 }
 
 // 01 Image mounted: the disk of a drive, if its motor bit is on.
 #[tactic(auto, unfolding(crate::specs::Ticks::seen_of))]
-fn seen(dor: u8, drive: u8, s: &[u8]) -> Disk
+fn seen(dor: u8, drive: u8, s: &[u8]) -> Option<Geometry>
     ensures { result ≡ seen_of dor drive s.now }
 {
-    let on = motor(dor, drive);
-    if on {
-        return disk_in(s);
-    }
-    Disk::Absent
-}
-
-fn present(disk: Disk) -> bool
-    ensures { result ≡ present_in disk }
-{
-    match disk {
-        Disk::Absent => false,
-        Disk::Present(_) => true,
-    }
+    if motor(dor, drive) { disk_in(s) } else { None }
 }
 
 // An empty drive counts as unprotected.
-fn protected(disk: Disk) -> bool
+fn protected(disk: Option<Geometry>) -> bool
     ensures { result ≡ protected_in disk }
 {
-    match disk {
-        Disk::Absent => false,
-        Disk::Present(g) => g.protect,
-    }
+    disk.is_some_and(|g| g.protect)
 }
 
-// Drives 2 and 3 are never mounted.
+// Drives 2 and 3 are never mounted. Each drive has a number and a mount of its own, so a `map` is no plainer.
 #[tactic(auto, unfolding(crate::specs::Ticks::tick_all))]
 fn tick_all(drives: [Drive; 4], mounted0: bool, mounted1: bool, ticks: u16) -> [Drive; 4]
     ensures { result ≡ tick_all drives mounted0 mounted1 ticks }
 {
-    let a = drives[0];
-    let b = drives[1];
-    let c = drives[2];
-    let d = drives[3];
+    let [a, b, c, d] = drives;
     [
         a.tick(0, mounted0, ticks),
         b.tick(1, mounted1, ticks),
@@ -92,22 +73,12 @@ fn tick_all(drives: [Drive; 4], mounted0: bool, mounted1: bool, ticks: u16) -> [
     ]
 }
 
+// `four`, here and where it is handed on: many_ticks' theorems `reads_ticks` and `stores_ticks` have it as a premise.
 pub fn all_stand(drives: [Drive; 4]) -> bool
     ensures stand { result ≡ all_stand drives }
     ensures four { length drives ≡ 4 }
 {
-    let a = drives[0];
-    let b = drives[1];
-    let c = drives[2];
-    let d = drives[3];
-    a.stands() & b.stands() & c.stands() & d.stands()
-}
-
-fn weight(on: bool, value: u8) -> u8
-    ensures value { result ≡ cond on value 0 }
-    ensures upper_bound { result ≤ value }
-{
-    if on { value } else { 0 }
+    drives.iter().all(|d| d.stands())
 }
 
 // 01 Commands Sense Drive: write protect 40, track 0 10, and 28 always.
@@ -116,7 +87,7 @@ fn st3(unit: u8, protect: bool, head: u8) -> u8
     ensures { result ≡ st3_of unit protect head }
 {
     let zero = (unit % 4 < 2) & (head == 0);
-    0x28 + weight(protect, 0x40) + weight(zero, 0x10) + unit % 8
+    0x28 + 0x40 * u8::from(protect) + 0x10 * u8::from(zero) + unit % 8
 }
 
 impl Controller {
@@ -125,14 +96,13 @@ impl Controller {
     fn stepped(self, a: &[u8], b: &[u8]) -> Controller
         ensures { result ≡ stepped_of a.now b.now self }
     {
-        let drives = self.drives;
-        let still = all_stand(drives);
-        if still {
+        if all_stand(self.drives) {
             return self;
         }
-        let mounted0 = present(seen(self.registers.dor, 0, a));
-        let mounted1 = present(seen(self.registers.dor, 1, b));
-        self.with_drives(tick_all(drives, mounted0, mounted1, step_ticks(self.registers.spec1)))
+        let mounted0 = seen(self.registers.dor, 0, a).is_some();
+        let mounted1 = seen(self.registers.dor, 1, b).is_some();
+        let ticks = step_ticks(self.registers.spec1);
+        self.with_drives(tick_all(self.drives, mounted0, mounted1, ticks))
     }
 
     // 01 Commands Sense Drive: ST3, which raises no INT.
@@ -145,7 +115,8 @@ impl Controller {
         self.say(st3(unit, protect, d.head))
     }
 
-    // The seven result bytes, or the command goes on.
+    // The seven result bytes, or the command goes on. Neither a verdict nor an array is this crate's, so that no From can say
+    // them here.
     #[tactic(auto, unfolding(crate::specs::Ticks::settled_of))]
     fn settle(self, then: Then, fifo: Fifo) -> Controller
         ensures { result ≡ settled_of then fifo self }
@@ -153,8 +124,8 @@ impl Controller {
         match then {
             Then::Ends(v) => {
                 let id = v.id;
-                let results = pad(&[v.st0, v.st1, v.st2, id.c, id.h, id.r, id.n]);
-                self.answered(true, results, 7).with_fifo(fifo)
+                let results = [v.st0, v.st1, v.st2, id.c, id.h, id.r, id.n];
+                self.with_results(true, &results).with_fifo(fifo)
             }
             Then::Works(work) => self.with_phase(Phase::Working(work)).with_fifo(fifo),
         }
@@ -167,7 +138,7 @@ impl Controller {
         Decision {
             controller: self,
             drive: 0,
-            effect: Effect::Nothing,
+            effect: None,
         }
     }
 
@@ -175,13 +146,10 @@ impl Controller {
     fn decided(self, drive: u8, step: Step) -> Decision
         ensures { result ≡ decided_of drive step self }
     {
-        let then = step.then;
-        let fifo = step.fifo;
-        let effect = step.effect;
         Decision {
-            controller: self.settle(then, fifo),
+            controller: self.settle(step.then, step.fifo),
             drive,
-            effect,
+            effect: step.effect,
         }
     }
 
@@ -189,10 +157,9 @@ impl Controller {
     fn start(self, order: Order, s: &[u8]) -> Decision
         ensures { result ≡ start_tick order s.now self }
     {
-        let d = self.drive(order.drive);
-        let fifo = self.fifo;
+        let head = self.drive(order.drive).head;
         let disk = seen(self.registers.dor, order.drive, s);
-        self.decided(order.drive, begin(order, disk, d.head, fifo))
+        self.decided(order.drive, begin(order, disk, head, self.fifo))
     }
 
     #[tactic(auto, unfolding(crate::specs::Ticks::work_tick))]
@@ -200,34 +167,22 @@ impl Controller {
         ensures { result ≡ work_tick work s.now self }
     {
         let drive = drive_of(work);
-        let d = self.drive(drive);
-        let fifo = self.fifo;
+        let head = self.drive(drive).head;
         let disk = seen(self.registers.dor, drive, s);
-        let step = go_on(
-            work,
-            disk,
-            d.head,
-            s,
-            fifo,
-            self.registers.efifo,
-            self.registers.fifothr,
-        );
+        let step = go_on(work, disk, head, s, self.fifo, self.registers.setting());
         self.decided(drive, step)
     }
-}
 
-impl Controller {
+    // The phase comes beside the record, as its definition `decide_in` has it.
     #[tactic(auto, unfolding(crate::specs::Ticks::decide_in))]
     fn decide_in<'a>(self, phase: Phase, a: &'a [u8], b: &'a [u8]) -> Decision
         ensures { result ≡ decide_in phase a.now b.now self }
     {
         match phase {
-            Phase::Idle => self.still(),
-            Phase::Gathering(_) => self.still(),
+            Phase::Idle | Phase::Gathering(_) | Phase::Answering(_) => self.still(),
             Phase::Starting(order) => self.start(order, pick(order.drive, a, b)),
             Phase::Working(work) => self.work(work, pick(drive_of(work), a, b)),
             Phase::Sensing(unit) => self.sense(unit, pick(unit % 4, a, b)).still(),
-            Phase::Answering(_) => self.still(),
         }
     }
 
@@ -236,29 +191,25 @@ impl Controller {
     pub fn decide<'a>(self, a: &'a [u8], b: &'a [u8]) -> Decision
         ensures { result ≡ decide_of a.now b.now self }
     {
-        let rests = held(self.registers.dor);
-        if rests {
+        if held(self.registers.dor) {
             return self.still();
         }
-        let phase = self.phase;
-        self.stepped(a, b).decide_in(phase, a, b)
+        self.stepped(a, b).decide_in(self.phase, a, b)
     }
 
-    // One byte time, over the two images.
+    // One byte time, over the two images. It tests the record itself: under `checked` (tried) the proof doesn't know what
+    // the closure left in them.
     #[tactic(auto, unfolding(crate::specs::Ticks::still_of, crate::specs::Ticks::ruled_of, crate::specs::Ticks::tick_of, crate::specs::Ticks::image_after))]
     pub fn tick(self, a: &mut [u8], b: &mut [u8]) -> Answer
         ensures answer { result ≡ tick_of a.old b.old self }
         ensures first { a.new ≡ image_after 0 a.old b.old self a.old }
         ensures second { b.new ≡ image_after 1 a.old b.old self b.old }
     {
-        let valid = self.valid();
-        if valid {
-            let decision = self.decide(a, b);
-            let effect = decision.effect;
-            let next = decision.controller;
-            store(decision.drive, effect, a, b);
-            return next.answer(Reply::Done);
+        if !self.valid() {
+            return self.refuse(Refusal::Damaged);
         }
-        self.answer(Reply::Refused(Refusal::Damaged))
+        let decision = self.decide(a, b);
+        store(decision.drive, decision.effect, a, b);
+        decision.controller.answer(Reply::Done)
     }
 }

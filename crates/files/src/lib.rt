@@ -6,4 +6,5 @@ pub mod fault;
 pub mod image;
 pub mod keep;
 pub mod load;
+pub mod program;
 pub mod word;

@@ -1,11 +1,11 @@
 -- A write by the library's calls alone (specs/Examples): by computation on the box that the bytes show.
 -- Assumes nothing.
+use Rattle.std.specs.Prelude.{Some}
 use Prim.Native.Nat.{ℕ}
 use native.Mathlib.Omega.{arith}
 use mathlib.Core.List.{List, [], ◌∷◌, ◌++◌}
 use mathlib.Core.Path.{◌≡◌, refl, subst}
 use borrow.Author.Rules.{rules}
-use Rattle.image.specs.declared.disk.Disk.TheVariants.{Present}
 use Rattle.image.specs.Disk.{header_in, geometry_in, disk_in}
 use Rattle.image.specs.Examples.{disk, sample}
 use Rattle.image.specs.Layout.{size_of, track_length, length_of}
@@ -44,7 +44,7 @@ writes : Writes writer ordered written sector_one
 unfolding calls_open calls_in box_left image_left
 writes = record { accepted = refl; moves = refl; writes = refl }
 
-mounts : disk_in (sample 2) ≡ Present (disk 1 1 2 1)
+mounts : disk_in (sample 2) ≡ Some (disk 1 1 2 1)
 unfolding header_in geometry_in disk_in size_of track_length length_of
 mounts = refl
 

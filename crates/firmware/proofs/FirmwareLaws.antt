@@ -1,5 +1,7 @@
 -- What is proved of document 01's calls, of the firmware's bytes (specs/FromFirmware).
 -- Assumes nothing.
+use Rattle.std.specs.Prelude.{None, Some}
+use Rattle.image.specs.Lent.{put_at}
 use Prim.Native.Nat.{ℕ, zero, suc, ◌≤◌}
 use native.Mathlib.Omega.{arith}
 use mathlib.Core.Bool.{Bool, true, false, cond}
@@ -10,8 +12,7 @@ use lib.ListN.{length, take}
 use lib.Seq.{take-nil}
 use borrow.Author.Tests.{eqb-true}
 use Rattle.image.specs.declared.layout.Geometry.{Geometry}
-use Rattle.image.specs.declared.lent.Effect.{Effect}
-use Rattle.image.specs.declared.lent.Effect.TheVariants.{Nothing, Store}
+use Rattle.image.specs.Lent.{Effect}
 use Rattle.image.specs.declared.slot.Id.{Id}
 use Rattle.image.specs.Lent.{pick_of, stored_in, stored_as}
 use Rattle.sectors.specs.declared.order.Order.{Order}
@@ -101,8 +102,8 @@ tick_pick drive p q a b c = go (eqb drive 0) (eqb drive 1) refl refl
     effect = (ruled_of p q c).effect
 
     nowhere : (t : Bool) (e : Effect) → cond t (stored_in e []) [] ≡ []
-    nowhere true Nothing = refl
-    nowhere true (Store place byte) = refl
+    nowhere true None = refl
+    nowhere true (Some put) = refl
     nowhere false e = refl
 
     go : (t u : Bool) → eqb drive 0 ≡ t → eqb drive 1 ≡ u

@@ -1,5 +1,7 @@
 -- Inside one `bel_ticks` (specs/Inside): a run in two parts, and its stores in their order.
 -- Assumes nothing.
+use Rattle.std.specs.Prelude.{None, Some}
+use Rattle.image.specs.Lent.{put_at}
 use Prim.Native.Nat.{ℕ, zero, suc, ◌+◌, ◌≤◌}
 use native.Mathlib.Omega.{arith}
 use mathlib.Core.Bool.{Bool, true, false, cond, true≢false}
@@ -9,8 +11,7 @@ use lib.Dec.{eqb}
 use lib.ListN.{length, take}
 use lib.Seq.{take-nil}
 use Rattle.image.proofs.TestLaws.{by_test}
-use Rattle.image.specs.declared.lent.Effect.{Effect}
-use Rattle.image.specs.declared.lent.Effect.TheVariants.{Nothing, Store}
+use Rattle.image.specs.Lent.{Effect}
 use Rattle.image.specs.Lent.{stored_as}
 use Rattle.fdc.specs.declared.answer.Answer.{Answer}
 use Rattle.fdc.specs.declared.answer.Reply.TheVariants.{Done}
@@ -138,7 +139,7 @@ ticks_split k m a b c = go (valid_of c) refl
 data OneStore (call : Call) (c : Controller) : Type 0 where
   none : store_by call c ≡ [] → ((k : ℕ) (img : List ℕ) → image_by k img call c ≡ img) → OneStore call c
   one : (s : StoreMade) → store_by call c ≡ s ∷ []
-      → ((k : ℕ) (img : List ℕ) → image_by k img call c ≡ stored_as s.drive k (Store s.place s.byte) img)
+      → ((k : ℕ) (img : List ℕ) → image_by k img call c ≡ stored_as s.drive k (Some (put_at s.place s.byte)) img)
       → OneStore call c
 
 same_both : (t : Bool) (img : List ℕ) → cond t img img ≡ img
@@ -150,9 +151,9 @@ unfolding image_after
 tick_store a b c = go (ruled_of a b c).effect refl
   where
     go : (e : Effect) → (ruled_of a b c).effect ≡ e → OneStore (ticks a b) c
-    go Nothing e = none (rw e) (λ k img. rw e (same_both (eqb (ruled_of a b c).drive k) img))
-    go (Store place byte) e =
-        one (record { drive = (ruled_of a b c).drive; place = place; byte = byte }) (rw e) (λ k img. rw e)
+    go None e = none (rw e) (λ k img. rw e (same_both (eqb (ruled_of a b c).drive k) img))
+    go (Some put) e =
+        one (record { drive = (ruled_of a b c).drive; place = put.at; byte = put.byte }) (rw e) (λ k img. rw e)
 
 one_store : (call : Call) (c : Controller) → OneStore call c
 one_store (powers head0 head1) c = none refl (λ k img. refl)

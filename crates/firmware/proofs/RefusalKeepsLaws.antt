@@ -2,6 +2,7 @@
 -- Assumes nothing.
 use Prim.Native.Nat.{ℕ, ◌+◌, ◌/◌, ◌%◌, ◌<◌, ◌≤◌}
 use native.Mathlib.Omega.{arith}
+use Rattle.std.specs.Prelude.{Option, None, Some}
 use mathlib.Core.Bool.{Bool, true, false, ◌&&◌, ◌||◌}
 use mathlib.Core.List.{List}
 use mathlib.Core.Logic.{◌⊎◌, inl, inr}
@@ -16,7 +17,7 @@ use Rattle.engine.specs.declared.flow.Flow.TheVariants.{Quiet, ToHost, FromHost}
 use Rattle.engine.specs.Step.{flow_of}
 use Rattle.fdc.specs.declared.answer.Answer.{Answer}
 use Rattle.fdc.specs.declared.ports.Port.{Port}
-use Rattle.fdc.specs.declared.ports.Port.TheVariants.{None, Dor, Tdr, Status, Data, Input}
+use Rattle.fdc.specs.declared.ports.Port.TheVariants.{Dor, Tdr, Status, Data, Input}
 use Rattle.fdc.specs.declared.record.Controller.{Controller}
 use Rattle.fdc.specs.declared.record.Phase.{Phase}
 use Rattle.fdc.specs.declared.record.Phase.TheVariants.{Idle, Gathering, Starting, Working, Sensing, Answering}
@@ -108,15 +109,15 @@ module _ (c : Controller) (dor : c.registers.dor < 256) (front : front_of c.fifo
   read_in_small (Sensing unit) = omega arith
   read_in_small (Answering loud) = result
 
-  read_reg_small : (port : Port) → Small (read_reg port c)
+  read_reg_small : (port : Option Port) → Small (read_reg port c)
   unfolding read_reg read_fifo answer_of
   read_reg_small None = omega arith
-  read_reg_small Dor = dor
-  read_reg_small Tdr = omega arith
-  read_reg_small Status = msr_small
-  read_reg_small Data =
+  read_reg_small (Some Dor) = dor
+  read_reg_small (Some Tdr) = omega arith
+  read_reg_small (Some Status) = msr_small
+  read_reg_small (Some Data) =
       by_test (eqb (msr_of c / 64) 3) Small (read_in c.phase c) _ (λ _. read_in_small c.phase) (λ _. omega arith)
-  read_reg_small Input = dir_small
+  read_reg_small (Some Input) = dir_small
 
   read_small : (offset : ℕ) → Small (answer_to (reads offset) c)
   unfolding answer_to read_port answer_of

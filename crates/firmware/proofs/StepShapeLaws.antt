@@ -1,5 +1,6 @@
 -- What a tick of a command leaves of the FIFO's array and count, and how far it counts bytes: of any work at all.
 -- Assumes nothing.
+use Rattle.std.specs.Prelude.{None, Some}
 use Prim.Native.Nat.{ℕ, ◌+◌, ◌≤◌}
 use native.Mathlib.Omega.{arith}
 use mathlib.Core.Bool.{Bool, true, false, not, ◌&&◌, ◌||◌}
@@ -10,10 +11,8 @@ use lib.ListN.{length, length-set, length-append, length-drop}
 use borrow.Author.Tests.{leb-false}
 use Rattle.image.proofs.LayoutLaws.{size_le}
 use Rattle.image.proofs.TestLaws.{by_test, or_right}
-use Rattle.image.specs.declared.disk.Disk.{Disk}
-use Rattle.image.specs.declared.disk.Disk.TheVariants.{Absent, Present}
-use Rattle.image.specs.declared.lent.Effect.{Effect}
-use Rattle.image.specs.declared.lent.Effect.TheVariants.{Nothing}
+use Rattle.image.specs.Disk.{Disk}
+use Rattle.image.specs.Lent.{Effect}
 use Rattle.image.specs.declared.mark.Mark.{Mark}
 use Rattle.image.specs.declared.mark.Mark.TheVariants.{NoId, Data, NoData}
 use Rattle.image.specs.declared.slot.Id.{Id}
@@ -143,7 +142,7 @@ module _ (efifo : Bool) (f : Fifo) where
 
     fails_fine : (st1 st2 : ℕ) → Ok (move_fails st1 st2 site task)
     unfolding move_fails
-    fails_fine st1 st2 = move_end_fine false st1 st2 _ Nothing
+    fails_fine st1 st2 = move_end_fine false st1 st2 _ None
 
     followed_fine : (n : Next) (slot : ℕ) (fifo : Fifo) (effect : Effect) → Room efifo f fifo
         → Ok (followed_of n slot site task fifo effect)
@@ -192,7 +191,7 @@ module _ (efifo : Bool) (f : Fifo) where
     unfolding read_found
     read_found_fine other broken slot =
         by_test (other && task.transfer.sk) Ok _ _
-        (λ t. follow_fine site _ slot f.tc f Nothing (room_same efifo f))
+        (λ t. follow_fine site _ slot f.tc f None (room_same efifo f))
         (λ t. record { room = room_same efifo f; done = omega arith })
 
     data_found_fine : (p : Pass) (deleted broken : Bool) (slot : ℕ)
@@ -228,17 +227,17 @@ module _ (efifo : Bool) (f : Fifo) where
     drain_fine sector looks =
         by_test (eqb f.count 0) Ok _ _
         (λ t. by_test sector.broken Ok _ _ (λ u. fails_fine site task 0x20 0x20)
-        (λ u. by_test task.late Ok _ _ (λ w. late_end_fine site task Nothing)
-        (λ w. by_test sector.other Ok _ _ (λ v. move_end_fine site task true 0 0 task.id Nothing)
-        (λ v. follow_fine site task sector.slot f.tc f Nothing (room_same efifo f)))))
-        (λ t. by_test (leb 63 looks) Ok _ _ (λ u. late_end_fine site task Nothing)
+        (λ u. by_test task.late Ok _ _ (λ w. late_end_fine site task None)
+        (λ w. by_test sector.other Ok _ _ (λ v. move_end_fine site task true 0 0 task.id None)
+        (λ v. follow_fine site task sector.slot f.tc f None (room_same efifo f)))))
+        (λ t. by_test (leb 63 looks) Ok _ _ (λ u. late_end_fine site task None)
         (λ u. record { room = room_same efifo f; done = omega arith }))
 
     await_fine : (slot wait head : ℕ) → Ok (await_of slot wait site task head f)
     unfolding await_of
     await_fine slot wait head =
         by_test (eqb f.count 0) Ok _ _
-        (λ t. by_test (leb 63 wait) Ok _ _ (λ u. late_end_fine site task Nothing)
+        (λ t. by_test (leb 63 wait) Ok _ _ (λ u. late_end_fine site task None)
         (λ u. record { room = room_same efifo f; done = omega arith }))
         (λ t. record { room = room_same efifo f; done = omega arith })
 
@@ -268,10 +267,10 @@ module _ (efifo : Bool) (f : Fifo) where
   identified_fine : (m : Mark) (id : Id) (slot passes : ℕ) (site : Site) → Ok (identified_of m id slot passes site f)
   unfolding identified_of id_here no_id_here no_id_of
   identified_fine NoId id slot passes site =
-      by_test (second_pass slot site.disk.slots passes) Ok _ _ (λ t. end_fine false _ _ 1 0 _ Nothing)
+      by_test (second_pass slot site.disk.slots passes) Ok _ _ (λ t. end_fine false _ _ 1 0 _ None)
       (λ t. record { room = room_same efifo f; done = omega arith })
-  identified_fine (Data deleted broken) id slot passes site = end_fine true _ _ 0 0 id Nothing
-  identified_fine NoData id slot passes site = end_fine true _ _ 0 0 id Nothing
+  identified_fine (Data deleted broken) id slot passes site = end_fine true _ _ 0 0 id None
+  identified_fine NoData id slot passes site = end_fine true _ _ 0 0 id None
 
   module _ (site : Site) (plan : Plan) (head : ℕ) where
     format_end_fine : (normal : Bool) (st1 done : ℕ) (effect : Effect)
@@ -290,11 +289,11 @@ module _ (efifo : Bool) (f : Fifo) where
     unfolding form_of form_await address_of address_put fill_of formed_of clear_of
     form_fine (form.Awaiting slot wait) fifothr =
         by_test (eqb f.count 0) Ok _ _
-        (λ t. by_test (leb 63 wait) Ok _ _ (λ u. format_end_fine false 0x10 slot Nothing)
+        (λ t. by_test (leb 63 wait) Ok _ _ (λ u. format_end_fine false 0x10 slot None)
         (λ u. record { room = room_same efifo f; done = omega arith }))
         (λ t. record { room = room_same efifo f; done = omega arith })
     form_fine (Addressing slot k) fifothr =
-        by_test (eqb f.count 0) Ok _ _ (λ t. format_end_fine false 0x10 slot Nothing)
+        by_test (eqb f.count 0) Ok _ _ (λ t. format_end_fine false 0x10 slot None)
         (λ t. by_test (leb 3 k) Ok _ _ (λ u. record { room = room_drawn efifo fifothr f; done = omega arith })
         (λ u. record { room = room_drawn efifo fifothr f; done = omega arith }))
     form_fine (Filling slot done) fifothr =
@@ -316,9 +315,9 @@ module _ (efifo : Bool) (f : Fifo) where
 
   lost_fine : (work : Work) (head : ℕ) → Ok (lost_of work head)
   unfolding lost_of no_id_of
-  lost_fine (Identifying site slot passes) head = end_fine false _ _ 1 0 _ Nothing
+  lost_fine (Identifying site slot passes) head = end_fine false _ _ 1 0 _ None
   lost_fine (Moving site task stage) head = fails_fine site task 1 0
-  lost_fine (Formatting site plan form) head = format_end_fine site plan head false 1 _ Nothing
+  lost_fine (Formatting site plan form) head = format_end_fine site plan head false 1 _ None
 
   -- a tick after the first, of any work
   pub go_on_fine : (work : Work) (disk : Disk) (head : ℕ) (img : List ℕ) (fifothr : ℕ)
@@ -342,15 +341,15 @@ module _ (efifo : Bool) (f : Fifo) where
   -- the first tick, of any order
   pub begin_fine : (order : Order) (disk : Disk) (head : ℕ) → Fine efifo f (begin_of order disk head f)
   unfolding begin_of gate_of entered_of
-  begin_fine order Absent head = end_fine false _ _ 1 0 _ Nothing
-  begin_fine order (Present g) head =
+  begin_fine order None head = end_fine false _ _ 1 0 _ None
+  begin_fine order (Some g) head =
       by_test (not (has_track g head order.side))
       (λ gate. Ok (entered_of gate order.job order.drive order.side head f)) _ _
-      (λ t. end_fine false _ _ 1 0 _ Nothing)
+      (λ t. end_fine false _ _ 1 0 _ None)
       (λ t. by_test (changes order.job && g.protect)
       (λ gate. Ok (entered_of gate order.job order.drive order.side head f)) _ _
-      (λ u. end_fine false _ _ 2 0 _ Nothing)
+      (λ u. end_fine false _ _ 2 0 _ None)
       (λ u. by_test (misplanned order.job g)
       (λ gate. Ok (entered_of gate order.job order.drive order.side head f)) _ _
-      (λ v. end_fine false _ _ 4 0 _ Nothing)
+      (λ v. end_fine false _ _ 4 0 _ None)
       (λ v. start_fine order.job _)))

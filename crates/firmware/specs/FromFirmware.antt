@@ -1,8 +1,7 @@
 -- What is proved of document 01's calls, of the firmware's bytes: after power-on every record in them is a reached one
 -- (`Real`), of which demands 1 to 3 speak; and, as one of them, demand 3 of the images that the firmware holds.
 -- Assumes nothing.
-use Rattle.std.specs.Prelude.{ℕ, ◌≤◌, ◌<◌, List, [], ◌∷◌, ◌++◌, ◌≡◌, length, take}
-use Rattle.image.specs.declared.disk.Disk.TheVariants.{Present}
+use Rattle.std.specs.Prelude.{ℕ, ◌≤◌, ◌<◌, List, [], ◌∷◌, ◌++◌, ◌≡◌, length, take, Some}
 use Rattle.image.specs.declared.layout.Geometry.{Geometry}
 use Rattle.image.specs.declared.slot.Id.{Id}
 use Rattle.image.specs.Disk.{disk_in}
@@ -65,7 +64,7 @@ pub record Accepted (w : World) (c : Controller) (order : Order) (transfer : Tra
   pub holds : HoldsRecord w.bytes c
   pub real : Real c
   pub writes : Writes c order transfer id
-  pub disk : disk_in (world_image order.drive w) ≡ Present g
+  pub disk : disk_in (world_image order.drive w) ≡ Some g
 
 -- demand 3 of an image after some of the library's calls
 abbrev pub LeftAfter : World → Controller → Order → Transfer → Id → Geometry → List BelCall → List ℕ → Type 0

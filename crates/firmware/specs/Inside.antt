@@ -3,9 +3,9 @@
 -- leaves (01 Write, "A power cut is the end of the list"). In which order stores reach memory inside one call is the
 -- compiler's part and the hardware's, and nothing here speaks of it.
 -- Assumes nothing.
-use Rattle.std.specs.Prelude.{ℕ, ◌+◌, ◌≤◌, Bool, cond, List, [], ◌∷◌, ◌++◌, ◌≡◌, take}
-use Rattle.image.specs.declared.lent.Effect.{Effect}
-use Rattle.image.specs.declared.lent.Effect.TheVariants.{Nothing, Store}
+use Rattle.image.specs.Lent.{put_at}
+use Rattle.std.specs.Prelude.{ℕ, ◌+◌, ◌≤◌, Bool, cond, List, [], ◌∷◌, ◌++◌, ◌≡◌, take, None, Some}
+use Rattle.image.specs.Lent.{Effect}
 use Rattle.image.specs.Lent.{stored_as}
 use Rattle.fdc.specs.declared.answer.Answer.{Answer}
 use Rattle.fdc.specs.declared.record.Controller.{Controller}
@@ -40,8 +40,8 @@ pub record StoreMade : Type 0 where
   pub byte : ℕ
 
 abbrev pub store_in : ℕ → Effect → List StoreMade
-store_in drive Nothing = []
-store_in drive (Store place byte) = record { drive = drive; place = place; byte = byte } ∷ []
+store_in drive None = []
+store_in drive (Some put) = record { drive = drive; place = put.at; byte = put.byte } ∷ []
 
 -- 01 Calls: only a tick changes an image, by at most one byte
 abbrev pub store_by : Call → Controller → List StoreMade
@@ -61,7 +61,7 @@ stores_made (call ∷ calls) c = store_by call c ++ stores_made calls (after cal
 -- the image of drive k after stores in that order
 unfoldable pub put_all : ℕ → List StoreMade → List ℕ → List ℕ
 put_all k [] img = img
-put_all k (s ∷ later) img = put_all k later (stored_as s.drive k (Store s.place s.byte) img)
+put_all k (s ∷ later) img = put_all k later (stored_as s.drive k (Some (put_at s.place s.byte)) img)
 
 -- the stores that a run of n ticks makes
 abbrev pub stores_in : ℕ → List ℕ → List ℕ → Controller → List StoreMade

@@ -1,6 +1,7 @@
 -- Laws of `disk_in` (01 Image mounted): it answers a disk exactly when the image fits, and a store behind the header
 -- changes no answer.
 -- Assumes nothing.
+use Rattle.std.specs.Prelude.{None, Some}
 use Prim.Native.Nat.{ℕ, ◌*◌, ◌^◌, ◌≤◌, ◌<◌}
 use native.Mathlib.Nat.{mod-eq_of_lt}
 use native.Mathlib.Omega.{arith}
@@ -12,8 +13,7 @@ use lib.ListN.{length, get_or, take, set, length-set}
 use lib.Seq.{get_or-take, get_or-set_other}
 use borrow.Author.Tests.{leb-true, eqb-true, eqb-false, le-leb, eq-eqb}
 use Rattle.image.specs.declared.layout.Geometry.{Geometry}
-use Rattle.image.specs.declared.disk.Disk.{Disk}
-use Rattle.image.specs.declared.disk.Disk.TheVariants.{Absent, Present}
+use Rattle.image.specs.Disk.{Disk}
 use Rattle.image.specs.Layout.{size_of, slot_length, track_length, length_of}
 use Rattle.image.specs.Disk.{within, header_in, geometry_in, disk_in, flag, header_of, InRange, Fits}
 use Rattle.image.proofs.LayoutLaws.{product_le, size_le, length_ge}
@@ -72,10 +72,10 @@ module _ (img : List ℕ) (h : header_in img ≡ true) where
       sym (listed_part img 8 0 (omega arith)) ∙ rw (t0, t1, t2, ← one_or_none (get_or img 7 0) p)
 
 -- 01 Image mounted: an answer with a disk is right
-pub present_fits : (img : List ℕ) (g : Geometry) → disk_in img ≡ Present g → Fits g img
+pub present_fits : (img : List ℕ) (g : Geometry) → disk_in img ≡ Some g → Fits g img
 unfolding disk_in
 present_fits img g =
-    by_test (header_in img && eqb (length img) (length_of (geometry_in img))) (λ (d : Disk). d ≡ Present g
+    by_test (header_in img && eqb (length img) (length_of (geometry_in img))) (λ (d : Disk). d ≡ Some g
     → Fits g img) _ _
     (λ t q.
     let (h, l) = both (header_in img) _ t in
@@ -130,34 +130,34 @@ module _ (img : List ℕ) (g : Geometry) (f : Fits g img) where
         true_within 0 (flag g.protect) 1 (omega arith, flag_le g.protect),
       )
 
-  pub fits_present : disk_in img ≡ Present g
+  pub fits_present : disk_in img ≡ Some g
   unfolding disk_in
   fits_present = rw (header_geometry img g f.header, fits_header, eq-eqb (length img) (length_of g) f.size)
 
 -- fewer bytes than a header hold no disk
-pub short_absent : (img : List ℕ) → length img < 8 → disk_in img ≡ Absent
+pub short_absent : (img : List ℕ) → length img < 8 → disk_in img ≡ None
 unfolding disk_in
 short_absent img short =
     let asked : ℕ = length_of (geometry_in img) in
-    by_test (header_in img && eqb (length img) asked) (λ (d : Disk). d ≡ Absent) (Present (geometry_in img)) Absent
+    by_test (header_in img && eqb (length img) asked) (λ (d : Disk). d ≡ None) (Some (geometry_in img)) None
     (λ t.
     let size : length img ≡ asked = eqb-true (length img) asked (both (header_in img) (eqb (length img) asked) t).1 in
     absurd (omega (arith, length_ge (geometry_in img), size)))
     (λ _. refl)
 
 -- 01 Image: every other is empty
-pub absent_fits_none : (img : List ℕ) → disk_in img ≡ Absent → (g : Geometry) → Fits g img → ⊥
+pub absent_fits_none : (img : List ℕ) → disk_in img ≡ None → (g : Geometry) → Fits g img → ⊥
 absent_fits_none img a g f =
     let p = fits_present img g f in
     let z : ◌≡◌ {A = ℕ} 0 1 = cc in
     omega arith
 
-pub fits_none_absent : (img : List ℕ) → ((g : Geometry) → Fits g img → ⊥) → disk_in img ≡ Absent
+pub fits_none_absent : (img : List ℕ) → ((g : Geometry) → Fits g img → ⊥) → disk_in img ≡ None
 fits_none_absent img none = go (disk_in img) refl
   where
-    go : (d : Disk) → disk_in img ≡ d → d ≡ Absent
-    go Absent e = refl
-    go (Present g) e = absurd (none g (present_fits img g e))
+    go : (d : Disk) → disk_in img ≡ d → d ≡ None
+    go None e = refl
+    go (Some g) e = absurd (none g (present_fits img g e))
 
 -- lengths fit: the largest image has 6,076,047 bytes
 pub length_le : (g : Geometry) → InRange g → length_of g ≤ 6076047

@@ -1,10 +1,10 @@
 -- 01 Example 3, 01 Example 4, by computation; and that `Sound` is met, and is not where it must not be.
 -- Assumes nothing.
+use Rattle.std.specs.Prelude.{Some}
 use Prim.Native.Nat.{ℕ, zero, suc, ◌<◌, ◌≤◌}
 use native.Mathlib.Omega.{arith}
 use mathlib.Core.Path.{◌≡◌, refl, ap}
 use Rattle.image.specs.declared.slot.Id.{Id}
-use Rattle.image.specs.declared.disk.Disk.TheVariants.{Present}
 use Rattle.image.specs.Layout.{size_of, track_length, length_of, track_at, offset_of, Has}
 use Rattle.image.specs.Disk.{header_in, geometry_in, disk_in, Fits}
 use Rattle.image.specs.Sound.{Sound, Track, mark_in, NoTwins}
@@ -32,7 +32,7 @@ sample_fits r =
       size = refl;
     }
 
-pub sample_present : disk_in (sample 2) ≡ Present (disk 1 1 2 1)
+pub sample_present : disk_in (sample 2) ≡ Some (disk 1 1 2 1)
 unfolding disk_in header_in geometry_in length_of track_length size_of
 sample_present = refl
 

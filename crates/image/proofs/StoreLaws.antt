@@ -1,5 +1,7 @@
 -- What a store leaves as it was (01 Calls, "by at most one byte"; 01 Image).
 -- Assumes nothing.
+use Rattle.std.specs.Prelude.{None, Some}
+use Rattle.image.specs.Lent.{put_at}
 use Prim.Native.Nat.{ℕ, ◌+◌, ◌≤◌, ◌<◌}
 use native.Mathlib.Omega.{arith}
 use mathlib.Core.List.{List}
@@ -8,8 +10,7 @@ use mathlib.Core.Path.{◌≡◌, refl}
 use lib.ListN.{length, get_or, set, length-set}
 use lib.Seq.{get_or-set_other}
 use Rattle.image.specs.declared.layout.Geometry.{Geometry}
-use Rattle.image.specs.declared.lent.Effect.{Effect}
-use Rattle.image.specs.declared.lent.Effect.TheVariants.{Nothing, Store}
+use Rattle.image.specs.Lent.{Effect}
 use Rattle.image.specs.Layout.{slot_length, offset_of, Has, InSlot}
 use Rattle.image.specs.Lent.{stored_in}
 use Rattle.image.specs.Slot.{slot_at, slot_bytes}
@@ -19,22 +20,22 @@ use Rattle.image.proofs.TestLaws.{le_or_lt}
 
 -- the length stays
 pub effect_length : (e : Effect) (img : List ℕ) → length (stored_in e img) ≡ length img
-effect_length Nothing img = refl
-effect_length (Store at byte) img = length-set img at byte
+effect_length None img = refl
+effect_length (Some put) img = length-set img put.at put.byte
 
 -- at most one byte differs: of two places one is as it was
 pub effect_one_byte :
     (e : Effect) (img : List ℕ) (i j : ℕ) → i ≢ j
     → (get_or (stored_in e img) i 0 ≡ get_or img i 0) ⊎ (get_or (stored_in e img) j 0 ≡ get_or img j 0)
-effect_one_byte Nothing img i j d = inl refl
-effect_one_byte (Store at byte) img i j d = go (le_or_lt i at) (le_or_lt at i)
+effect_one_byte None img i j d = inl refl
+effect_one_byte (Some put) img i j d = go (le_or_lt i put.at) (le_or_lt put.at i)
   where
-    other : (k : ℕ) → k ≢ at → get_or (set img at byte) k 0 ≡ get_or img k 0
-    other k n = get_or-set_other img at k byte 0 n
+    other : (k : ℕ) → k ≢ put.at → get_or (set img put.at put.byte) k 0 ≡ get_or img k 0
+    other k n = get_or-set_other img put.at k put.byte 0 n
 
     go :
-        (i ≤ at) ⊎ (at < i) → (at ≤ i) ⊎ (i < at)
-        → (get_or (set img at byte) i 0 ≡ get_or img i 0) ⊎ (get_or (set img at byte) j 0 ≡ get_or img j 0)
+        (i ≤ put.at) ⊎ (put.at < i) → (put.at ≤ i) ⊎ (i < put.at)
+        → (get_or (set img put.at put.byte) i 0 ≡ get_or img i 0) ⊎ (get_or (set img put.at put.byte) j 0 ≡ get_or img j 0)
     go (inr a) b = inl (other i (λ e. omega arith))
     go (inl a) (inr b) = inl (other i (λ e. omega arith))
     go (inl a) (inl b) = inr (other j (λ e. d (omega arith)))

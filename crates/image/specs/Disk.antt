@@ -1,11 +1,13 @@
 -- 01 Image mounted: is there a disk in an image ("A drive 0 or 1 is mounted exactly when ..")? The motor bit is the
 -- controller's.
 -- Assumes nothing.
-use Rattle.std.specs.Prelude.{ℕ, ◌≤◌, Bool, ◌&&◌, cond, List, [], ◌∷◌, ◌≡◌, eqb, leb, length, get_or, take}
+use Rattle.std.specs.Prelude.{ℕ, ◌≤◌, Bool, ◌&&◌, cond, List, [], ◌∷◌, ◌≡◌, eqb, leb, length, get_or, take, Option, None, Some}
 use Rattle.image.specs.declared.layout.Geometry.{Geometry}
-use Rattle.image.specs.declared.disk.Disk.{Disk}
-use Rattle.image.specs.declared.disk.Disk.TheVariants.{Absent, Present}
 use Rattle.image.specs.Layout.{length_of}
+
+-- what an image is to a drive: a disk by its header, or none
+abbrev pub Disk : Type 0
+Disk = Option Geometry
 
 abbrev pub within : ℕ → ℕ → ℕ → Bool
 within low x high = leb low x && leb x high
@@ -33,9 +35,9 @@ geometry_in img = geometry_of (get_or img 3 0) (get_or img 4 0) (get_or img 5 0)
 -- 01 Image: a disk exactly when the header is so and the image is exactly as long as it asks
 unfoldable pub disk_in : List ℕ → Disk
 disk_in img =
-    cond (header_in img && eqb (length img) (length_of (geometry_in img))) (Present (geometry_in img)) Absent
+    cond (header_in img && eqb (length img) (length_of (geometry_in img))) (Some (geometry_in img)) None
 
--- The same as a sentence; proofs/DiskLaws has that `disk_in img ≡ Present g` exactly when `Fits g img`.
+-- The same as a sentence; proofs/DiskLaws has that `disk_in img ≡ Some g` exactly when `Fits g img`.
 abbrev pub flag : Bool → ℕ
 flag b = cond b 1 0
 

@@ -2,10 +2,8 @@
 ghost use Rattle.std.specs.Prelude.{◌≡◌, ◌*◌, ◌≤◌};
 ghost use Rattle.image.specs.Layout.{size_of, slot_length, track_length, length_of, track_at, offset_of, same_of};
 
-use crate::bytes::wide;
-
 // What a header says of its disk.
-#[derive(Clone, Copy)]
+#[derive(Clone, Copy, Debug, PartialEq, Eq)]
 pub struct Geometry {
     pub cylinders: u8,
     pub heads: u8,
@@ -36,7 +34,7 @@ impl Geometry {
         ensures value { result ≡ k * slot_length self }
         ensures upper_bound { result ≤ 262395 }
     {
-        wide(k) * (5 + size_of(self.n))
+        usize::from(k) * (5 + size_of(self.n))
     }
 
     // The bytes of that many tracks, each with its tag, length, cylinder and side.
@@ -54,7 +52,7 @@ impl Geometry {
     pub fn length(self) -> usize
         ensures { result ≡ length_of self }
     {
-        8 + self.tracks_length(wide(self.cylinders) * wide(self.heads)) + 3
+        8 + self.tracks_length(usize::from(self.cylinders) * usize::from(self.heads)) + 3
     }
 
     // Where a track's tag stands. The bound lets a caller add to it.
@@ -63,7 +61,7 @@ impl Geometry {
         ensures value { result ≡ track_at self cylinder side }
         ensures upper_bound { result ≤ 17129472008 }
     {
-        let track = wide(cylinder) * wide(self.heads) + wide(side);
+        let track = usize::from(cylinder) * usize::from(self.heads) + usize::from(side);
         8 + self.tracks_length(track)
     }
 
@@ -76,15 +74,12 @@ impl Geometry {
         self.track(cylinder, side) + 5 + self.slots_length(slot)
     }
 
-    // Whether two headers say the same in all five.
+    // Whether two headers say the same in all five. No code calls it: it holds the derived equality to `same_of`, by which
+    // the statements speak of another disk.
     #[tactic(auto, unfolding(crate::specs::Layout::same_of))]
     pub fn same(self, g: Geometry) -> bool
         ensures { result ≡ same_of self g }
     {
-        (self.cylinders == g.cylinders)
-            & (self.heads == g.heads)
-            & (self.slots == g.slots)
-            & (self.n == g.n)
-            & (self.protect == g.protect)
+        self == g
     }
 }

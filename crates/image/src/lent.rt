@@ -13,35 +13,32 @@ pub fn pick<'a>(drive: u8, a: &'a [u8], b: &'a [u8]) -> &'a [u8]
     }
 }
 
-// What a tick does to the image picked.
-#[derive(Clone, Copy)]
-pub enum Effect {
-    Nothing,
-    Store { at: usize, byte: u8 },
+// A byte that a tick puts into the image picked. A tick that puts none has no store.
+#[derive(Clone, Copy, Debug, PartialEq, Eq)]
+pub struct Put {
+    pub at: usize,
+    pub byte: u8,
 }
 
 // An offset past the end stores nothing.
-pub fn apply(e: Effect, s: &mut [u8])
-    ensures { s.new ≡ stored_in e s.old }
+pub fn apply(effect: Option<Put>, s: &mut [u8])
+    ensures { s.new ≡ stored_in effect s.old }
 {
-    match e {
-        Effect::Nothing => {}
-        Effect::Store { at, byte } => {
-            if at < s.len() {
-                s[at] = byte;
-            }
+    if let Some(put) = effect {
+        if put.at < s.len() {
+            s[put.at] = put.byte;
         }
     }
 }
 
 // The effect on the image of the drive named; the other stays.
-pub fn store(drive: u8, e: Effect, a: &mut [u8], b: &mut [u8])
-    ensures first { a.new ≡ stored_as drive 0 e a.old }
-    ensures second { b.new ≡ stored_as drive 1 e b.old }
+pub fn store(drive: u8, effect: Option<Put>, a: &mut [u8], b: &mut [u8])
+    ensures first { a.new ≡ stored_as drive 0 effect a.old }
+    ensures second { b.new ≡ stored_as drive 1 effect b.old }
 {
     match drive {
-        0 => apply(e, a),
-        1 => apply(e, b),
+        0 => apply(effect, a),
+        1 => apply(effect, b),
         _ => {}
     }
 }

@@ -2,61 +2,52 @@
 ghost use Rattle.std.specs.Prelude.{◌≡◌};
 ghost use Rattle.image.specs.Mark.{mark_of, byte_of};
 
-#[derive(Clone, Copy)]
+#[derive(Clone, Copy, Debug, PartialEq, Eq)]
 pub enum Mark {
     NoId,
     Data { deleted: bool, broken: bool },
     NoData,
 }
 
-#[tactic(auto, unfolding(crate::specs::Mark::mark_of))]
-pub fn mark_of(byte: u8) -> Mark
-    ensures { result ≡ mark_of byte }
-{
-    match byte {
-        1 => Mark::Data {
-            deleted: false,
-            broken: false,
-        },
-        2 => Mark::Data {
-            deleted: true,
-            broken: false,
-        },
-        3 => Mark::Data {
-            deleted: false,
-            broken: true,
-        },
-        4 => Mark::Data {
-            deleted: true,
-            broken: true,
-        },
-        5 => Mark::NoData,
-        _ => Mark::NoId,
+impl Mark {
+    // The mark of a sector's data.
+    pub const fn data(deleted: bool, broken: bool) -> Mark
+        ensures { result ≡ Mark.Data deleted broken }
+    {
+        Mark::Data { deleted, broken }
     }
 }
 
-fn data_byte(deleted: bool, broken: bool) -> u8
-    ensures { result ≡ byte_of (Mark.Data deleted broken) }
-{
-    if broken {
-        if deleted {
-            return 4;
+impl From<u8> for Mark {
+    ghost from_gives = { λ byte mark. mark ≡ mark_of byte };
+
+    #[tactic(auto, unfolding(crate::specs::Mark::mark_of))]
+    fn from(byte: u8) -> Mark {
+        match byte {
+            1 => Mark::data(false, false),
+            2 => Mark::data(true, false),
+            3 => Mark::data(false, true),
+            4 => Mark::data(true, true),
+            5 => Mark::NoData,
+            _ => Mark::NoId,
         }
-        return 3;
     }
-    if deleted {
-        return 2;
-    }
-    1
 }
 
 // The byte that stands for a mark.
-pub fn mark_byte(mark: Mark) -> u8
-    ensures { result ≡ byte_of mark }
-{
-    match mark {
-        Mark::NoId => 0,
-        Mark::Data { deleted, broken } => data_byte(deleted, broken),
-        Mark::NoData => 5,
+impl From<Mark> for u8 {
+    ghost from_gives = { λ mark byte. byte ≡ byte_of mark };
+
+    fn from(mark: Mark) -> u8 {
+        match mark {
+            Mark::NoId => 0,
+            Mark::Data { deleted, broken } => match (deleted, broken) {
+                (false, false) => 1,
+                (true, false) => 2,
+                (false, true) => 3,
+                (true, true) => 4,
+            },
+            Mark::NoData => 5,
+        }
     }
 }

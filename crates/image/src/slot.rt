@@ -7,7 +7,7 @@ use crate::bytes::byte_at;
 use crate::layout::Geometry;
 
 // A sector's address.
-#[derive(Clone, Copy)]
+#[derive(Clone, Copy, Debug, PartialEq, Eq)]
 pub struct Id {
     pub c: u8,
     pub h: u8,
@@ -16,7 +16,7 @@ pub struct Id {
 }
 
 // The five bytes in front of a slot's data.
-#[derive(Clone, Copy)]
+#[derive(Clone, Copy, Debug, PartialEq, Eq)]
 pub struct Slot {
     pub mark: u8,
     pub id: Id,

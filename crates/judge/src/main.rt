@@ -4,39 +4,36 @@
 #![tactic(auto)]
 
 mod report;
-mod words;
 
-use files::fault::{fault, output_fault};
-use files::image::{image_buffer, image_of};
+use files::fault::fault;
+use files::image::image_buffer;
+use files::program::Program;
 use files::word::argument_count;
 use report::report;
 use std::env::Env;
 use std::fs::Files;
 use std::io;
 
-fn judge_file(
-    rt: &(impl Files + Env + Print),
-    err: &impl Print,
+fn judge_file<R: Files + Env + Print, E: Print>(
+    program: &Program<'_, R, E>,
     k: usize,
     bytes: &mut [u8],
 ) -> io::Result<()> {
-    let file = image_of(rt, err, b"judge", k, false, bytes);
-    if file.good {
-        report(rt, k, &bytes[..file.length])?;
+    if let Some(file) = program.image_of(k, false, bytes) {
+        report(program.rt, k, &bytes[..file.length])?;
     }
     Ok(())
 }
 
 // Whether each line was taken: one that was not keeps no other file from being judged.
-fn judge_files(
-    rt: &(impl Files + Env + Print),
-    err: &impl Print,
+fn judge_files<R: Files + Env + Print, E: Print>(
+    program: &Program<'_, R, E>,
     count: usize,
     bytes: &mut [u8],
 ) -> bool {
     let mut whole = true;
     for k in 1..count {
-        if judge_file(rt, err, k, bytes).is_err() {
+        if judge_file(program, k, bytes).is_err() {
             whole = false;
         }
     }
@@ -51,7 +48,12 @@ fn main(rt: HostRuntime) {
         return;
     }
     let mut bytes = image_buffer();
-    if !judge_files(&rt, &err, count, &mut bytes) {
-        output_fault(&err, b"judge");
+    let program = Program {
+        rt: &rt,
+        err: &err,
+        name: b"judge",
+    };
+    if !judge_files(&program, count, &mut bytes) {
+        program.output_fault();
     }
 }

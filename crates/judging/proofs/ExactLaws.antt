@@ -19,9 +19,8 @@ use Rattle.image.proofs.TestLaws.{le_or_lt}
 use Rattle.judging.specs.declared.fault.Kind.{Kind}
 use Rattle.judging.specs.declared.fault.Kind.TheVariants as kind
 use Rattle.judging.specs.declared.fault.Fault.{Fault}
-use Rattle.judging.specs.declared.fault.Verdict.{Verdict}
-use Rattle.judging.specs.declared.fault.Verdict.TheVariants as verdict
-use Rattle.judging.specs.Verdict.{fault, unless, is_fault, or_else}
+use Rattle.std.specs.Prelude.{Ok, Err}
+use Rattle.judging.specs.Verdict.{Verdict, fault, unless, is_fault, or_else}
 use Rattle.judging.specs.Fault.{FaultAt}
 use Rattle.judging.specs.Judge.{
   header_fault,
@@ -55,14 +54,14 @@ headed img kind.Twice o f = inr (f.g, f.fits.range, f.fits.header)
 headed img kind.End o f = inr (f.g, f.fits.range, f.fits.header)
 
 -- a wrong header
-exact_header : (img : List ℕ) (f : Fault) → header_fault img ≡ verdict.Faulty f → Exact img (verdict.Faulty f)
+exact_header : (img : List ℕ) (f : Fault) → header_fault img ≡ Err f → Exact img (Err f)
 exact_header img f e =
     record {
       once = λ j k o p q. (header j o p).0 ∙ sym (header k o q).0;
       told = (rw there.0 there.1, λ k o p. first k o (header k o p));
     }
   where
-    told : Told (InHeader img) (verdict.Faulty f)
+    told : Told (InHeader img) (Err f)
     told = rw e at (part_header img).told
 
     there : InHeader img f.kind f.at
@@ -88,7 +87,7 @@ same_fits img g f =
     (e, rw e f.size)
 
 -- a wrong length: its fault and no other
-module _ (img : List ℕ) (s : header_fault img ≡ verdict.Sound) where
+module _ (img : List ℕ) (s : header_fault img ≡ Ok tt) where
   abbrev own : Geometry
   own = geometry_in img
 
@@ -183,8 +182,8 @@ unfolding judge_of body_fault length_fault
 exact img = header (header_fault img) refl
   where
     length_stage :
-        header_fault img ≡ verdict.Sound → (t : Bool) → eqb (length img) (length_of (geometry_in img)) ≡ t
-        → Exact img (or_else (cond t verdict.Sound (fault kind.Length (smaller (length img) (length_of (geometry_in img)))))
+        header_fault img ≡ Ok tt → (t : Bool) → eqb (length img) (length_of (geometry_in img)) ≡ t
+        → Exact img (or_else (cond t (Ok tt) (fault kind.Length (smaller (length img) (length_of (geometry_in img)))))
         (or_else (tracks_fault (geometry_in img) img) (end_fault (geometry_in img) img)))
     length_stage s true e = exact_body img s (eqb-true _ _ e)
     length_stage s false e = exact_length img s (eqb-false _ _ e)
@@ -194,8 +193,8 @@ exact img = header (header_fault img) refl
         → Exact img (or_else v (or_else (unless (eqb (length img) (length_of (geometry_in img))) kind.Length
         (smaller (length img) (length_of (geometry_in img))))
         (or_else (tracks_fault (geometry_in img) img) (end_fault (geometry_in img) img))))
-    header verdict.Sound e = length_stage e (eqb (length img) (length_of (geometry_in img))) refl
-    header (verdict.Faulty f) e = exact_header img f e
+    header (Ok _) e = length_stage e (eqb (length img) (length_of (geometry_in img))) refl
+    header (Err f) e = exact_header img f e
 
 -- 02 2026-04
 pub judged_exactly : JudgedExactly
@@ -205,8 +204,8 @@ judged_exactly img k o = (
 )
   where
     back : FirstFault img k o → (v : Verdict) → judge_of img ≡ v → v ≡ fault k o
-    back f verdict.Sound e = absurd ((rw e at (exact img).told) k o f.there)
-    back f (verdict.Faulty x) e =
+    back f (Ok _) e = absurd ((rw e at (exact img).told) k o f.there)
+    back f (Err x) e =
         let t = rw e at (exact img).told in
         let here : x.at ≡ o = omega (arith, t.1 k o f.there, f.first x.kind x.at t.0) in
         let same : x.kind ≡ k = (exact img).once x.kind k o (rw here at t.0) f.there in
@@ -216,12 +215,12 @@ pub fault_exactly : FaultExactly
 fault_exactly img = (λ h. to (judge_of img) refl h, λ (k, o, f). back k o f (judge_of img) refl)
   where
     to : (v : Verdict) → judge_of img ≡ v → is_fault (judge_of img) ≡ true → (k : Kind) × (o : ℕ) × FaultAt img k o
-    to verdict.Sound e h = absurd (false≢true (rw e at h))
-    to (verdict.Faulty f) e h = (f.kind, f.at, (rw e at (exact img).told).0)
+    to (Ok _) e h = absurd (false≢true (rw e at h))
+    to (Err f) e h = (f.kind, f.at, (rw e at (exact img).told).0)
 
     back : (k : Kind) (o : ℕ) → FaultAt img k o → (v : Verdict) → judge_of img ≡ v → is_fault v ≡ true
-    back k o f verdict.Sound e = absurd ((rw e at (exact img).told) k o f)
-    back k o f (verdict.Faulty x) e = refl
+    back k o f (Ok _) e = absurd ((rw e at (exact img).told) k o f)
+    back k o f (Err x) e = refl
 
 -- no offset is past the largest image
 low : (img : List ℕ) (k : Kind) (o : ℕ) → FaultAt img k o → o ≤ 6076047
@@ -245,5 +244,5 @@ low img k o f = go k f
     go kind.Twice f = body f.g f.fits.range kind.Twice f.there
     go kind.End f = body f.g f.fits.range kind.End f.there
 
-pub offset_low : (img : List ℕ) (f : Fault) → judge_of img ≡ verdict.Faulty f → f.at ≤ 6076047
+pub offset_low : (img : List ℕ) (f : Fault) → judge_of img ≡ Err f → f.at ≤ 6076047
 offset_low img f e = low img f.kind f.at (rw e at (exact img).told).0

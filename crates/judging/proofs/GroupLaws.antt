@@ -10,6 +10,8 @@ use lib.Dec.{eqb}
 use lib.ListN.{length, get_or, set, length-set, replicate}
 use lib.Seq.{get_or-set_same, get_or-set_other}
 use borrow.Author.Tests.{eqb-true, eqb-false}
+use Rattle.std.specs.Prelude.{Option, None, Some, IfSome, unwrap_or}
+use Rattle.std.specs.Option.{option_or}
 use Rattle.image.specs.declared.slot.Slot.{Slot}
 use Rattle.image.proofs.TestLaws.{both, le_or_lt}
 use Rattle.judging.specs.Twice.{has_address, in_group, same_address, twice_at, First}
@@ -32,6 +34,12 @@ single_shorter slots end r j l s k a b = s k a (omega arith)
 -- slot j has an address in the group of slot `lead`
 abbrev pub member : (ℕ → Slot) → ℕ → ℕ → Bool
 member slots lead j = has_address (slots j).mark && in_group (slots j).id (slots lead).id
+
+-- the two tests of slot k, of its mark and of its group
+pub member_is :
+    (slots : ℕ → Slot) (lead k : ℕ) (slot first : Slot) (h g : Bool) → slot ≡ slots k → first ≡ slots lead
+    → h ≡ has_address slot.mark → g ≡ in_group slot.id first.id → member slots lead k ≡ (h && g)
+member_is slots lead k slot first h g e f p q = rw (p, q, e, f)
 
 -- one of a group has its address: so is the other
 same_member :
@@ -221,6 +229,24 @@ module _ (slots : ℕ → Slot) (lead k : ℕ) (done after seen : List Bool) (p 
 pub single_none : (slots : ℕ → Slot) (end j : ℕ) → has_address (slots j).mark ≡ false → Single slots end j
 single_none slots end j h k a b =
     cannot (same_address (slots j) (slots k)) (λ t. true≢false (sym (same_parts (slots j) (slots k) t).first ∙ h))
+
+-- the test of slot k's mark
+pub address_is :
+    (slots : ℕ → Slot) (k : ℕ) (slot : Slot) (h : Bool) → slot ≡ slots k → h ≡ has_address slot.mark
+    → has_address (slots k).mark ≡ h
+address_is slots k slot h e p = rw (p, e)
+
+-- the double that a pass finds, or the one known
+pub either_double :
+    (a b : Option ℕ) (n : ℕ) → unwrap_or (option_or a b) n ≡ unwrap_or a (unwrap_or b n)
+either_double None b n = refl
+either_double (Some k) b n = refl
+
+pub either_within :
+    (a b : Option ℕ) (m n : ℕ) → m ≤ n → IfSome a (λ k. k < m) → IfSome b (λ k. k < n)
+    → IfSome (option_or a b) (λ k. k < n)
+either_within None b m n l p q = q
+either_within (Some k) b m n l p q = omega arith
 
 -- before slot k of the whole track: the double known, and no slot passed or marked has another before that one
 pub record Looked (slots : ℕ → Slot) (total : ℕ) (done : List Bool) (end k : ℕ) : Type 0 where

@@ -16,14 +16,14 @@ use Rattle.image.proofs.DiskLaws.{within_true, true_within, first_eight, header_
 use Rattle.image.proofs.TestLaws.{both}
 use Rattle.judging.specs.declared.fault.Kind.{Kind}
 use Rattle.judging.specs.declared.fault.Kind.TheVariants.{Header}
-use Rattle.judging.specs.declared.fault.Verdict.TheVariants.{Sound}
+use Rattle.std.specs.Prelude.{Ok}
 use Rattle.judging.specs.Fault.{least, most, HeaderFault}
 use Rattle.judging.specs.Judge.{right_byte, header_byte, header_fault}
 use Rattle.judging.proofs.PartLaws.{Faults, Part, part_said, part_at, part_all, Wrong, part_byte}
 use Rattle.judging.proofs.TwiceLaws.{cannot}
 use Rattle.judging.proofs.VerdictLaws.{first_all, right_sound}
 
-module _ (img : List ℕ) (s : header_fault img ≡ Sound) where
+module _ (img : List ℕ) (s : header_fault img ≡ Ok tt) where
   -- every byte is there and in range
   pub right_byte_lem :
       (i : ℕ) → i < 8 → (i < length img) × (get_or least i 0 ≤ get_or img i 0) × (get_or img i 0 ≤ get_or most i 0)

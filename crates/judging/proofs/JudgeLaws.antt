@@ -11,9 +11,8 @@ use Rattle.image.specs.declared.layout.Geometry.{Geometry}
 use Rattle.image.specs.Layout.{offset_of}
 use Rattle.image.proofs.TestLaws.{le_or_lt}
 use Rattle.judging.specs.declared.fault.Kind.TheVariants.{Mark, Twice}
-use Rattle.judging.specs.declared.fault.Verdict.{Verdict}
-use Rattle.judging.specs.declared.fault.Verdict.TheVariants.{Sound}
-use Rattle.judging.specs.Verdict.{fault, unless, is_fault, first_of}
+use Rattle.std.specs.Prelude.{Ok}
+use Rattle.judging.specs.Verdict.{Verdict, fault, unless, is_fault, first_of}
 use Rattle.judging.specs.Twice.{slots_in, twice_at, First}
 use Rattle.judging.specs.Judge.{front_fault, slot_fault, track_fault}
 use Rattle.judging.proofs.TwiceLaws.{first_at}
@@ -23,11 +22,11 @@ use Rattle.judging.proofs.VerdictLaws.{fault_stays}
 pub sound_below :
     (g : Geometry) (img : List ℕ) (cylinder side k double : ℕ)
     → First (twice_at (slots_in g img cylinder side)) g.slots double → k < g.slots → k ≤ double
-    → slot_fault g img cylinder side k ≡ Sound → k < double
+    → slot_fault g img cylinder side k ≡ Ok tt → k < double
 sound_below g img cylinder side k double f l b s = go (le_or_lt double k)
   where
     never :
-        (t u : Bool) (at : ℕ) → u ≡ true → cond t (fault Mark at) (unless (not u) Twice at) ≡ Sound → ⊥
+        (t u : Bool) (at : ℕ) → u ≡ true → cond t (fault Mark at) (unless (not u) Twice at) ≡ Ok tt → ⊥
     never true u at e q = let z : ◌≡◌ {A = ℕ} 0 1 = cc in omega arith
     never false true at e q = let z : ◌≡◌ {A = ℕ} 0 1 = cc in omega arith
     never false false at e q = let z : ◌≡◌ {A = ℕ} 0 1 = cc in omega arith
@@ -58,7 +57,7 @@ module _
 
     -- or else what its slots are
     pub track_slots :
-        (v : Verdict) → front ≡ Sound → first_of (slot_fault g img (t / heads) (t % heads)) g.slots ≡ v
+        (v : Verdict) → front ≡ Ok tt → first_of (slot_fault g img (t / heads) (t % heads)) g.slots ≡ v
         → track_fault g img (t / g.heads) (t % g.heads) ≡ v
     unfolding track_fault
     track_slots v s e = counted ∙ (rw (← is, s) e)

@@ -8,9 +8,8 @@ use mathlib.Core.Logic.{◌⊎◌, inl, inr}
 use mathlib.Core.Path.{◌≡◌, refl, sym, ◌∙◌}
 use Rattle.image.proofs.TestLaws.{le_or_lt}
 use Rattle.judging.specs.declared.fault.Kind.{Kind}
-use Rattle.judging.specs.declared.fault.Verdict.{Verdict}
-use Rattle.judging.specs.declared.fault.Verdict.TheVariants.{Sound, Faulty}
-use Rattle.judging.specs.Verdict.{unless, or_else, first_of}
+use Rattle.std.specs.Prelude.{Ok, Err}
+use Rattle.judging.specs.Verdict.{Verdict, unless, or_else, first_of}
 
 -- faults of some kinds at some bytes
 abbrev pub Faults : Type 1
@@ -18,8 +17,8 @@ Faults = Kind → ℕ → Type 0
 
 -- the answer is the first of them, or sound where there is none
 abbrev pub Told : Faults → Verdict → Type 0
-Told P Sound = (k : Kind) (o : ℕ) → P k o → ⊥
-Told P (Faulty f) = P f.kind f.at × ((k : Kind) (o : ℕ) → P k o → f.at ≤ o)
+Told P (Ok _) = (k : Kind) (o : ℕ) → P k o → ⊥
+Told P (Err f) = P f.kind f.at × ((k : Kind) (o : ℕ) → P k o → f.at ≤ o)
 
 pub record Part (from below : ℕ) (P : Faults) (v : Verdict) : Type 0 where
   pub starts : (k : Kind) (o : ℕ) → P k o → from ≤ o
@@ -41,15 +40,15 @@ part_said {a} {b} {P} {v} Q to back p =
     }
   where
     go : (v : Verdict) → Told P v → Told Q v
-    go Sound t = λ k o q. t k o (back k o q)
-    go (Faulty f) (there, first) = (to f.kind f.at there, λ k o q. first k o (back k o q))
+    go (Ok _) t = λ k o q. t k o (back k o q)
+    go (Err f) (there, first) = (to f.kind f.at there, λ k o q. first k o (back k o q))
 
 -- the same bytes in other words
 pub part_at : {a b c d : ℕ} {P : Faults} {v : Verdict} → a ≡ c → b ≡ d → Part a b P v → Part c d P v
 part_at e f p = rw (← e, ← f) p
 
 -- no byte
-pub part_none : (a : ℕ) (P : Faults) → ((k : Kind) (o : ℕ) → P k o → ⊥) → Part a a P Sound
+pub part_none : (a : ℕ) (P : Faults) → ((k : Kind) (o : ℕ) → P k o → ⊥) → Part a a P (Ok tt)
 part_none a P n =
     record {
       starts = λ k o p. absurd (n k o p);
@@ -80,17 +79,17 @@ part_both {a} {b} {c} {P} {Q} {v} {w} x y p q =
     once j k o (inr u) (inr t) = q.once j k o u t
 
     told : (v w : Verdict) → Told P v → Told Q w → Told (λ k o. P k o ⊎ Q k o) (or_else v w)
-    told Sound Sound s t = λ k o u. none k o u
+    told (Ok _) (Ok _) s t = λ k o u. none k o u
       where
         none : (k : Kind) (o : ℕ) → P k o ⊎ Q k o → ⊥
         none k o (inl u) = s k o u
         none k o (inr u) = t k o u
-    told Sound (Faulty f) s (there, first) = (inr there, λ k o u. later k o u)
+    told (Ok _) (Err f) s (there, first) = (inr there, λ k o u. later k o u)
       where
         later : (k : Kind) (o : ℕ) → P k o ⊎ Q k o → f.at ≤ o
         later k o (inl u) = absurd (s k o u)
         later k o (inr u) = first k o u
-    told (Faulty f) w (there, first) t = (inl there, λ k o u. later k o u)
+    told (Err f) w (there, first) t = (inl there, λ k o u. later k o u)
       where
         later : (k : Kind) (o : ℕ) → P k o ⊎ Q k o → f.at ≤ o
         later k o (inl u) = first k o u

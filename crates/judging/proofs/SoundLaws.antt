@@ -17,8 +17,8 @@ use Rattle.image.proofs.DiskLaws.{header_geometry}
 use Rattle.image.proofs.TestLaws.{le_or_lt}
 use Rattle.judging.specs.declared.fault.Kind.{Kind}
 use Rattle.judging.specs.declared.fault.Kind.TheVariants as kind
-use Rattle.judging.specs.declared.fault.Verdict.{Verdict}
-use Rattle.judging.specs.declared.fault.Verdict.TheVariants as verdict
+use Rattle.std.specs.Prelude.{Ok, Err}
+use Rattle.judging.specs.Verdict.{Verdict}
 use Rattle.judging.specs.Fault.{
   field_bytes,
   TrackFault,
@@ -200,7 +200,7 @@ module _ (g : Geometry) (img : List ℕ) (fits : Fits g img) (none : (k : Kind) 
       }
 
 -- a sound answer: header and length are right
-answered_fits : (img : List ℕ) → judge_of img ≡ verdict.Sound → Fits (geometry_in img) img
+answered_fits : (img : List ℕ) → judge_of img ≡ Ok tt → Fits (geometry_in img) img
 unfolding judge_of body_fault length_fault
 answered_fits img e =
     let (h, body) = both_sound (header_fault img) _ e in
@@ -218,7 +218,7 @@ sound_exactly img = (
   λ (g, s). back g s (judge_of img) refl,
 )
   where
-    back : (g : Geometry) → Sound g img → (v : Verdict) → judge_of img ≡ v → v ≡ verdict.Sound
-    back g s verdict.Sound e = refl
-    back g s (verdict.Faulty f) e =
+    back : (g : Geometry) → Sound g img → (v : Verdict) → judge_of img ≡ v → v ≡ Ok tt
+    back g s (Ok _) e = refl
+    back g s (Err f) e =
         absurd (sound_none g img s f.kind f.at (rw e at (exact img).told).0)

@@ -1,12 +1,13 @@
 -- Laws of addresses (02 2026-04): what two slots with one address agree in, and the first slot that meets a test.
 -- Assumes nothing.
-use Prim.Native.Nat.{ℕ, zero, suc, ◌+◌, ◌<◌, ◌≤◌}
+use Prim.Native.Nat.{ℕ, zero, suc, ◌<◌, ◌≤◌}
 use native.Mathlib.Omega.{arith}
 use mathlib.Core.Bool.{Bool, true, false, ◌&&◌, ◌||◌, true≢false, false≢true}
 use mathlib.Core.Logic.{◌⊎◌, inl, inr}
 use mathlib.Core.Path.{◌≡◌, refl, sym, ◌∙◌}
 use lib.Dec.{eqb}
 use borrow.Author.Tests.{eqb-true, eq-eqb}
+use Rattle.std.specs.Prelude.{Option, None, Some, MatchOption, unwrap_or}
 use Rattle.image.specs.declared.slot.Id.{Id}
 use Rattle.image.specs.declared.slot.Slot.{Slot}
 use Rattle.image.proofs.TestLaws.{both, le_or_lt}
@@ -93,24 +94,17 @@ first_once p n q r f g = go (le_or_lt q r) (le_or_lt r q)
     go (inl a) (inr b) = absurd (never q r f g b)
     go (inr a) b = absurd (never r q g f a)
 
--- up to the first number, a test is met exactly there
+-- the first number meets the test
 pub first_at : (p : ℕ → Bool) (n r k : ℕ) → First p n r → k < n → k ≡ r → p k ≡ true
 first_at p n r k f l e = rw e (f.there (omega arith))
 
-pub first_below : (p : ℕ → Bool) (n r k : ℕ) → First p n r → k ≤ r → (k ≡ r → ⊥) → p k ≡ false
-first_below p n r k f l d = f.before k (go (le_or_lt r k))
-  where
-    go : (r ≤ k) ⊎ (k < r) → k < r
-    go (inl a) = absurd (d (omega arith))
-    go (inr a) = a
-
--- one number more that meets no test
-pub none_more :
-    (p : ℕ → Bool) (n : ℕ) → ((k : ℕ) → k < n → p k ≡ false) → p n ≡ false → (k : ℕ) → k < n + 1 → p k ≡ false
-none_more p n h e k l = go (le_or_lt n k)
-  where
-    go : (n ≤ k) ⊎ (k < n) → p k ≡ false
-    go (inl a) =
-        let q : k ≡ n = omega arith in
-        rw q e
-    go (inr a) = h k a
+-- what a search over the numbers below n finds is the first
+pub first_of_found :
+    (p : ℕ → Bool) (n : ℕ) (r : Option ℕ)
+    → MatchOption r ((k : ℕ) → 0 ≤ k → k < n → p k ≡ false)
+    (λ i. (0 ≤ i) × (i < n) × (p i ≡ true) × ((k : ℕ) → 0 ≤ k → k < i → p k ≡ false))
+    → First p n (unwrap_or r n)
+first_of_found p n None f =
+    record { bounded = omega arith; before = λ k l. f k (omega arith) l; there = λ l. absurd (omega arith) }
+first_of_found p n (Some i) (z, l, t, f) =
+    record { bounded = omega arith; before = λ k b. f k (omega arith) b; there = λ b. t }

@@ -1,10 +1,9 @@
 -- The judge on small images (02 2026-04), computed in the check. The proofs are in proofs/Examples.antt.
 -- Assumes nothing.
-use Rattle.std.specs.Prelude.{ℕ, List, [], ◌∷◌, ◌++◌, ◌≡◌, replicate, set, take}
+use Rattle.std.specs.Prelude.{ℕ, List, [], ◌∷◌, ◌++◌, ◌≡◌, replicate, set, take, Ok}
 use Rattle.image.specs.Disk.{header_of}
 use Rattle.image.specs.Examples.{disk, sample}
 use Rattle.judging.specs.declared.fault.Kind.TheVariants.{Header, Length, Track, Place, Mark, Twice, End}
-use Rattle.judging.specs.declared.fault.Verdict.TheVariants.{Sound}
 use Rattle.judging.specs.Verdict.{fault}
 use Rattle.judging.specs.Judge.{judge_of}
 
@@ -30,7 +29,7 @@ pub record JudgeExamples : Type 0 where
   pub shorter : judge_of (take 537 (set (sample 2) 13 6)) ≡ fault Length 537
   pub longer : judge_of (sample 2 ++ (0 ∷ [])) ≡ fault Length 538
   -- sectors 1 and 2; and each later kind
-  pub sound : judge_of (sample 2) ≡ Sound
+  pub sound : judge_of (sample 2) ≡ Ok tt
   pub tag : judge_of (set (sample 2) 8 1) ≡ fault Track 8
   pub low_length : judge_of (set (sample 2) 10 0) ≡ fault Track 10
   pub side : judge_of (set (sample 2) 12 1) ≡ fault Place 12
@@ -41,5 +40,5 @@ pub record JudgeExamples : Type 0 where
   pub abba : judge_of (track (slot 1 1 1) (slot 1 2 1) (slot 1 2 1) (slot 1 1 1)) ≡ fault Twice 535
   -- one address under marks 3 and 5 is twice; another N is another address; a slot with mark 0 has none
   pub marks : judge_of (track (slot 3 1 1) (slot 1 2 1) (slot 1 3 1) (slot 5 1 1)) ≡ fault Twice 796
-  pub other_n : judge_of (track (slot 1 1 1) (slot 1 1 2) (slot 1 1 3) (slot 1 2 1)) ≡ Sound
-  pub no_address_law : judge_of (track (slot 1 1 1) (slot 0 1 1) (slot 2 2 1) (slot 0 1 1)) ≡ Sound
+  pub other_n : judge_of (track (slot 1 1 1) (slot 1 1 2) (slot 1 1 3) (slot 1 2 1)) ≡ Ok tt
+  pub no_address_law : judge_of (track (slot 1 1 1) (slot 0 1 1) (slot 2 2 1) (slot 0 1 1)) ≡ Ok tt

@@ -6,8 +6,7 @@ use Rattle.image.specs.declared.layout.Geometry.{Geometry}
 use Rattle.image.specs.Disk.{within, geometry_in}
 use Rattle.image.specs.Layout.{slot_length, length_of, track_at, offset_of}
 use Rattle.judging.specs.declared.fault.Kind.TheVariants.{Header, Length, Track, Place, Mark, Twice, End}
-use Rattle.judging.specs.declared.fault.Verdict.{Verdict}
-use Rattle.judging.specs.Verdict.{fault, unless, or_else, first_of, bytes_fault}
+use Rattle.judging.specs.Verdict.{Verdict, fault, unless, or_else, first_of, bytes_fault}
 use Rattle.judging.specs.Fault.{least, most, field_bytes}
 use Rattle.judging.specs.Twice.{slots_in, twice_at}
 

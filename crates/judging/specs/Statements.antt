@@ -1,10 +1,9 @@
 -- What holds of the judge (02 2026-04): "It answers a fault exactly if one exists, with the kind and the byte offset."
 -- Assumes nothing.
-use Rattle.std.specs.Prelude.{ℕ, ◌≤◌, true, List, ◌↔◌, ◌≡◌}
+use Rattle.std.specs.Prelude.{ℕ, ◌≤◌, true, List, ◌↔◌, ◌≡◌, Ok}
 use Rattle.image.specs.declared.layout.Geometry.{Geometry}
 use Rattle.image.specs.Sound.{Sound}
 use Rattle.judging.specs.declared.fault.Kind.{Kind}
-use Rattle.judging.specs.declared.fault.Verdict.TheVariants as verdict
 use Rattle.judging.specs.Verdict.{fault, is_fault}
 use Rattle.judging.specs.Fault.{FaultAt}
 use Rattle.judging.specs.Judge.{judge_of}
@@ -24,4 +23,4 @@ FaultExactly = (img : List ℕ) → (is_fault (judge_of img) ≡ true) ↔ ((k :
 
 -- and sound exactly if the image is (01 Image sound, the definition that the demands use)
 abbrev pub SoundExactly : Type 0
-SoundExactly = (img : List ℕ) → (judge_of img ≡ verdict.Sound) ↔ ((g : Geometry) × Sound g img)
+SoundExactly = (img : List ℕ) → (judge_of img ≡ Ok tt) ↔ ((g : Geometry) × Sound g img)

@@ -7,10 +7,15 @@ use Rattle.image.specs.declared.slot.Slot.{Slot}
 use Rattle.image.specs.Disk.{within}
 use Rattle.image.specs.Layout.{offset_of}
 use Rattle.image.specs.Slot.{slot_at}
+use Rattle.judging.specs.declared.doubles.Track.{Track}
 
 -- the slots of a track
 abbrev pub slots_in : Geometry → List ℕ → ℕ → ℕ → ℕ → Slot
 slots_in g img cylinder side k = slot_at img (offset_of g cylinder side k)
+
+-- the same of a track that is one value
+abbrev pub slots_of : Track → ℕ → Slot
+slots_of t = slots_in t.g t.s.now t.cylinder t.side
 
 -- 02 2026-04: slots with mark 0 or above 5 have no address
 abbrev pub has_address : ℕ → Bool

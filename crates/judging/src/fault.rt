@@ -1,76 +1,71 @@
 // What the judge answers (02 2026-04), and the fault of a run of bytes.
-ghost use Rattle.std.specs.Prelude.{◌≡◌, length, ◌≤◌};
-ghost use Rattle.judging.specs.Verdict.{is_fault, bytes_fault, number_of};
+ghost use Rattle.std.specs.Prelude.{◌≡◌, length, ◌≤◌, Some};
+ghost use Rattle.judging.specs.Verdict.{bytes_fault, number_of, words_of};
 
 use image::bytes::byte_at;
+use std::fmt;
 
-// What a fault is in.
-#[derive(Clone, Copy)]
+// What a fault is in, with its number (02 2026-04).
+#[derive(Clone, Copy, Debug, PartialEq, Eq)]
 pub enum Kind {
-    Header,
-    Length,
+    Header = 1,
+    Length = 2,
     // a track's tag or length
-    Track,
+    Track = 3,
     // a track's cylinder or side byte
-    Place,
+    Place = 4,
     // a mark above 5
-    Mark,
+    Mark = 5,
     // an address twice on a track
-    Twice,
+    Twice = 6,
     // the end field
-    End,
+    End = 7,
+}
+
+// The case's own number, as it is written there.
+impl From<Kind> for u8 {
+    ghost from_gives = { λ kind number. number ≡ number_of kind };
+
+    fn from(kind: Kind) -> u8 {
+        kind as u8
+    }
+}
+
+impl fmt::Display for Kind {
+    ghost output = { λ kind. Some (words_of kind) };
+
+    fn fmt<W: fmt::Write>(&self, f: &mut fmt::Formatter<W>) -> fmt::Result {
+        f.write_str(match self {
+            Kind::Header => "header",
+            Kind::Length => "length",
+            Kind::Track => "track tag or length",
+            Kind::Place => "cylinder or side byte",
+            Kind::Mark => "mark above 5",
+            Kind::Twice => "address twice",
+            Kind::End => "end field",
+        })
+    }
 }
 
 // Its kind, and its byte's offset in the file.
-#[derive(Clone, Copy)]
+#[derive(Clone, Copy, Debug, PartialEq, Eq)]
 pub struct Fault {
     pub kind: Kind,
     pub at: usize,
 }
 
-#[derive(Clone, Copy)]
-pub enum Verdict {
-    Sound,
-    Faulty(Fault),
-}
-
-// 02 2026-04: kinds 1 to 7.
-pub fn kind_number(kind: Kind) -> u8
-    ensures { result ≡ number_of kind }
-{
-    match kind {
-        Kind::Header => 1,
-        Kind::Length => 2,
-        Kind::Track => 3,
-        Kind::Place => 4,
-        Kind::Mark => 5,
-        Kind::Twice => 6,
-        Kind::End => 7,
-    }
-}
-
-pub fn is_fault(v: Verdict) -> bool
-    ensures { result ≡ is_fault v }
-{
-    match v {
-        Verdict::Sound => false,
-        Verdict::Faulty(_) => true,
-    }
-}
-
 // The first of these bytes that the image does not have from `at` on.
 #[tactic(auto, using(crate::proofs::VerdictLaws::first_none, crate::proofs::VerdictLaws::first_more, crate::proofs::VerdictLaws::first_there))]
-pub(crate) fn bytes_fault(s: &[u8], kind: Kind, at: usize, bytes: &[u8]) -> Verdict
+pub(crate) fn bytes_fault(s: &[u8], kind: Kind, at: usize, bytes: &[u8]) -> Result<(), Fault>
     requires at_bound { at ≤ 17129734408 }
     requires bytes_len_bound { length bytes.now ≤ 8 }
     ensures { result ≡ bytes_fault s.now kind at bytes.now }
 {
-    let mut i = 0;
-    while i < bytes.len() {
-        if byte_at(s, at + i) != bytes[i] {
-            return Verdict::Faulty(Fault { kind, at: at + i });
+    for (i, byte) in bytes.iter().enumerate() {
+        let at = at + i;
+        if byte_at(s, at) != *byte {
+            return Err(Fault { kind, at });
         }
-        i += 1;
     }
-    Verdict::Sound
+    Ok(())
 }

@@ -1,5 +1,5 @@
 // The judge (02 2026-04): the parts of the file in their order, each left at its first fault.
-ghost use Rattle.std.specs.Prelude.{◌≡◌, ◌≤◌, ◌<◌, length};
+ghost use Rattle.std.specs.Prelude.{◌≡◌, ◌≤◌, ◌<◌, length, unwrap_or};
 ghost use Rattle.image.specs.Disk.{InRange, geometry_in};
 ghost use Rattle.image.specs.Layout.{length_of};
 ghost use Rattle.judging.specs.Judge.{
@@ -12,191 +12,161 @@ ghost use Rattle.judging.specs.Judge.{
   body_fault,
   judge_of,
 };
-ghost use Rattle.judging.specs.Twice.{First, twice_at, slots_in};
+ghost use Rattle.judging.specs.Twice.{First, twice_at, slots_of};
 
-use crate::doubles::first_double;
-use crate::fault::{Fault, Kind, Verdict, bytes_fault, is_fault};
-use image::bytes::{byte_at, wide};
-use image::disk::{between, geometry_of};
+use crate::doubles::Track;
+use crate::fault::{Fault, Kind, bytes_fault};
+use image::disk::{between, geometry_in};
 use image::layout::Geometry;
 
-// 01 Image, the header's bytes from the least to the most.
-const LEAST: [u8; 8] = [0x01, 0x00, 0x05, 1, 1, 1, 1, 0];
-
-const MOST: [u8; 8] = [0x01, 0x00, 0x05, 82, 2, 36, 3, 1];
+// 01 Image, the header's bytes, each from the least to the most.
+const HEADER: [(u8, u8); 8] = [
+    (0x01, 0x01),
+    (0x00, 0x00),
+    (0x05, 0x05),
+    (1, 82),
+    (1, 2),
+    (1, 36),
+    (1, 3),
+    (0, 1),
+];
 
 // An image that ends inside the header is wrong at its end.
 #[tactic(auto, using(crate::proofs::VerdictLaws::first_none, crate::proofs::VerdictLaws::first_more, crate::proofs::VerdictLaws::first_there))]
-fn header_fault(s: &[u8]) -> Verdict
+fn header_fault(s: &[u8]) -> Result<(), Fault>
     ensures { result ≡ header_fault s.now }
 {
-    let mut i = 0;
-    while i < 8 {
-        if s.len() <= i {
-            return Verdict::Faulty(Fault {
-                kind: Kind::Header,
-                at: i,
-            });
-        }
-        let right = between(LEAST[i], s[i], MOST[i]);
+    for (at, (least, most)) in HEADER.iter().enumerate() {
+        let right = s.get(at).is_some_and(|byte| between(*least, *byte, *most));
         if !right {
-            return Verdict::Faulty(Fault {
+            return Err(Fault {
                 kind: Kind::Header,
-                at: i,
+                at,
             });
         }
-        i += 1;
     }
-    Verdict::Sound
-}
-
-#[tactic(auto, unfolding(image::specs::Disk::geometry_in))]
-fn geometry(s: &[u8]) -> Geometry
-    ensures { result ≡ geometry_in s.now }
-{
-    geometry_of(
-        byte_at(s, 3),
-        byte_at(s, 4),
-        byte_at(s, 5),
-        byte_at(s, 6),
-        byte_at(s, 7),
-    )
-}
-
-// 02 2026-04: at the smaller of the length asked and the length given.
-#[tactic(auto, unfolding(crate::specs::Judge::length_fault))]
-fn length_fault(s: &[u8], g: Geometry) -> Verdict
-    ensures { result ≡ length_fault g s.now }
-{
-    let asked = g.length();
-    let given = s.len();
-    if given == asked {
-        return Verdict::Sound;
-    }
-    if given < asked {
-        return Verdict::Faulty(Fault {
-            kind: Kind::Length,
-            at: given,
-        });
-    }
-    Verdict::Faulty(Fault {
-        kind: Kind::Length,
-        at: asked,
-    })
-}
-
-// Tag 02 and the length of what follows; cylinder and side.
-#[tactic(auto, using(image::proofs::LayoutLaws::product_le, image::proofs::LayoutLaws::size_le, crate::proofs::VerdictLaws::left_sound, crate::proofs::VerdictLaws::fault_stays), unfolding(crate::specs::Judge::front_fault))]
-fn front_fault(s: &[u8], g: Geometry, cylinder: u8, side: u8) -> Verdict
-    requires { InRange g }
-    ensures { result ≡ front_fault g s.now cylinder side }
-{
-    let at = g.track(cylinder, side);
-    let size = 2 + g.slots_length(g.slots);
-    let track = bytes_fault(
-        s,
-        Kind::Track,
-        at,
-        &[2, (size / 256) as u8, (size % 256) as u8],
-    );
-    if is_fault(track) {
-        return track;
-    }
-    bytes_fault(s, Kind::Place, at + 3, &[cylinder, side])
+    Ok(())
 }
 
 // A mark above 5, or the track's first double.
-#[tactic(auto, using(crate::proofs::TwiceLaws::first_at, crate::proofs::TwiceLaws::first_below))]
-fn slot_fault(s: &[u8], g: Geometry, cylinder: u8, side: u8, k: u8, double: u8) -> Verdict
-    requires first { First (twice_at (slots_in g s.now cylinder side)) g.slots double }
-    requires k_le_double { k ≤ double }
-    requires k_lt_slots { k < g.slots }
-    ensures { result ≡ slot_fault g s.now cylinder side k }
+fn slot_fault(t: Track, k: u8, double: Option<u8>) -> Result<(), Fault>
+    requires first { First (twice_at (slots_of t)) t.g.slots (unwrap_or double t.g.slots) }
+    requires k_le_double { k ≤ unwrap_or double t.g.slots }
+    requires k_lt_slots { k < t.g.slots }
+    ensures { result ≡ slot_fault t.entry.g t.entry.s.now t.entry.cylinder t.entry.side k }
 {
-    let at = g.offset(cylinder, side, k);
-    let high = 5 < byte_at(s, at);
-    if high {
-        return Verdict::Faulty(Fault {
+    let at = t.g.offset(t.cylinder, t.side, k);
+    if t.slot(k).mark > 5 {
+        return Err(Fault {
             kind: Kind::Mark,
             at,
         });
     }
-    if k == double {
-        return Verdict::Faulty(Fault {
+    if double == Some(k) {
+        return Err(Fault {
             kind: Kind::Twice,
             at,
         });
     }
-    Verdict::Sound
+    Ok(())
 }
 
-// 01 Form: nested loops over tracks and slots, left by label with the fault found.
-#[tactic(auto, using(crate::proofs::JudgeLaws::sound_below, crate::proofs::JudgeLaws::track_front, crate::proofs::JudgeLaws::track_slots, crate::proofs::VerdictLaws::left_sound, crate::proofs::VerdictLaws::first_none, crate::proofs::VerdictLaws::first_more, crate::proofs::VerdictLaws::first_found))]
-fn tracks_fault(s: &[u8], g: Geometry) -> Verdict
-    requires { InRange g }
-    ensures { result ≡ tracks_fault g s.now }
-{
-    let heads = wide(g.heads);
-    let slots = g.slots;
-    let tracks = wide(g.cylinders) * heads;
-    let mut found = Verdict::Sound;
-    let mut track = 0;
-    'tracks: while track < tracks {
-        let cylinder = (track / heads) as u8;
-        let side = (track % heads) as u8;
-        let front = front_fault(s, g, cylinder, side);
-        if is_fault(front) {
-            found = front;
-            break 'tracks;
+// An image whose header is right, and what the header says.
+#[derive(Clone, Copy)]
+struct Image<'a> {
+    s: &'a [u8],
+    g: Geometry,
+    ghost in_range: { InRange g },
+}
+
+impl Image<'_> {
+    // 02 2026-04: at the smaller of the length asked and the length given.
+    #[tactic(auto, unfolding(crate::specs::Judge::length_fault))]
+    fn length_fault(self) -> Result<(), Fault>
+        ensures { result ≡ length_fault self.entry.g self.entry.s.now }
+    {
+        let asked = self.g.length();
+        let given = self.s.len();
+        if given == asked {
+            return Ok(());
         }
-        let double = first_double(s, g, cylinder, side);
-        let mut k = 0;
-        while k < slots {
-            let fault = slot_fault(s, g, cylinder, side, k, double);
-            if is_fault(fault) {
-                found = fault;
+        Err(Fault {
+            kind: Kind::Length,
+            at: given.min(asked),
+        })
+    }
+
+    // Tag 02 and the length of what follows; cylinder and side.
+    #[tactic(auto, using(image::proofs::LayoutLaws::product_le, image::proofs::LayoutLaws::size_le), unfolding(crate::specs::Judge::front_fault))]
+    fn front_fault(self, cylinder: u8, side: u8) -> Result<(), Fault>
+        ensures { result ≡ front_fault self.entry.g self.entry.s.now cylinder side }
+    {
+        let at = self.g.track(cylinder, side);
+        // As the maker of blank disks writes it; here too the cast is proved by the range of this header.
+        let [high, low] = ((2 + self.g.slots_length(self.g.slots)) as u16).to_be_bytes();
+        bytes_fault(self.s, Kind::Track, at, &[2, high, low])?;
+        bytes_fault(self.s, Kind::Place, at + 3, &[cylinder, side])
+    }
+
+    // 01 Form first fault: nested loops over tracks and slots, left by label with the fault found.
+    #[tactic(auto, using(crate::proofs::JudgeLaws::sound_below, crate::proofs::JudgeLaws::track_slots, crate::proofs::VerdictLaws::left_sound, crate::proofs::VerdictLaws::first_none, crate::proofs::VerdictLaws::first_more))]
+    fn tracks_fault(self) -> Result<(), Fault>
+        ensures { result ≡ tracks_fault self.entry.g self.entry.s.now }
+    {
+        let g = self.g;
+        let heads = usize::from(g.heads);
+        let mut found = Ok(());
+        'tracks: for t in 0..usize::from(g.cylinders) * heads {
+            let cylinder = (t / heads) as u8;
+            let side = (t % heads) as u8;
+            found = self.front_fault(cylinder, side);
+            if found.is_err() {
                 break 'tracks;
             }
-            k += 1;
+            let track = Track {
+                s: self.s,
+                g,
+                cylinder,
+                side,
+            };
+            let double = track.first_double();
+            for k in 0..g.slots {
+                found = slot_fault(track, k, double);
+                if found.is_err() {
+                    break 'tracks;
+                }
+            }
         }
-        track += 1;
+        found
     }
-    found
-}
 
-#[tactic(auto, using(image::proofs::LayoutLaws::length_ge, image::proofs::DiskLaws::length_le))]
-fn end_fault(s: &[u8], g: Geometry) -> Verdict
-    requires { InRange g }
-    ensures { result ≡ end_fault g s.now }
-{
-    bytes_fault(s, Kind::End, g.length() - 3, &[3, 0, 0])
-}
+    #[tactic(auto, using(image::proofs::LayoutLaws::length_ge, image::proofs::DiskLaws::length_le))]
+    fn end_fault(self) -> Result<(), Fault>
+        ensures { result ≡ end_fault self.entry.g self.entry.s.now }
+    {
+        bytes_fault(self.s, Kind::End, self.g.length() - 3, &[3, 0, 0])
+    }
 
-// What follows a right header. A wrong length hides the rest.
-#[tactic(auto, using(crate::proofs::VerdictLaws::left_sound, crate::proofs::VerdictLaws::fault_stays), unfolding(crate::specs::Judge::body_fault))]
-fn body_fault(s: &[u8], g: Geometry) -> Verdict
-    requires { InRange g }
-    ensures { result ≡ body_fault g s.now }
-{
-    let length = length_fault(s, g);
-    if is_fault(length) {
-        return length;
+    // A wrong length hides the rest.
+    #[tactic(auto, unfolding(crate::specs::Judge::body_fault))]
+    fn body_fault(self) -> Result<(), Fault>
+        ensures { result ≡ body_fault self.entry.g self.entry.s.now }
+    {
+        self.length_fault()?;
+        self.tracks_fault()?;
+        self.end_fault()
     }
-    let tracks = tracks_fault(s, g);
-    if is_fault(tracks) {
-        return tracks;
-    }
-    end_fault(s, g)
 }
 
 // The verdict on any bytes. A wrong header hides the rest.
-#[tactic(auto, using(crate::proofs::HeaderLaws::right_range, crate::proofs::VerdictLaws::left_sound, crate::proofs::VerdictLaws::fault_stays), unfolding(crate::specs::Judge::judge_of))]
-pub fn judge(s: &[u8]) -> Verdict
+#[tactic(auto, using(crate::proofs::HeaderLaws::right_range), unfolding(crate::specs::Judge::judge_of))]
+pub fn judge(s: &[u8]) -> Result<(), Fault>
     ensures { result ≡ judge_of s.now }
 {
-    let header = header_fault(s);
-    if is_fault(header) {
-        return header;
-    }
-    body_fault(s, geometry(s))
+    header_fault(s)?;
+    let image = Image {
+        s,
+        g: geometry_in(s),
+    };
+    image.body_fault()
 }

@@ -9,9 +9,9 @@ use mathlib.Core.Path.{◌≡◌, refl, sym, ap, ◌∙◌, subst}
 use lib.ListN.{length, take, set, length-set}
 use lib.Seq.{take-suc-set}
 use borrow.Author.Tests.{lt-ltb, le-ltb}
+use Rattle.std.specs.Prelude.{Err}
 use Rattle.log_lines.specs.declared.gather.Gathered.{Gathered}
 use Rattle.log_lines.specs.declared.line.Expected.TheVariants as expected
-use Rattle.log_lines.specs.declared.line.Line.TheVariants.{Malformed}
 use Rattle.log_lines.specs.Gather.{no_text, added_to, added_all, line_within, gathered_line}
 use Rattle.log_lines.specs.Line.{line_of}
 
@@ -59,7 +59,7 @@ gathered_line_lem s h =
 -- a line of 256 bytes, and more
 pub gathered_long : (s more : List ℕ)
     → length s ≡ 256
-    → gathered_line (added_all more (added_all s no_text)) ≡ Malformed expected.Shorter
+    → gathered_line (added_all more (added_all s no_text)) ≡ Err expected.Shorter
 unfolding line_within
 gathered_long s more h =
     let all = added_holds s no_text refl (omega arith) in

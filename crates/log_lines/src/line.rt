@@ -1,11 +1,14 @@
-// A line of a log: the call that it says, or what was expected where it says none.
-ghost use Rattle.std.specs.Prelude.{◌≡◌, ◌≤◌, length};
-ghost use Rattle.log_lines.specs.Line.{ended_at, read_from, byte_from, write_from, call_in, text_length, line_of};
+// A line of a log: the call that it says, or what was expected where it says none. `script::line` has the same names
+// for a language of its own: `script_read` and `read_from` differ in what follows `r`, and the definitions of each
+// answer in its own Line and Expected, with words of its own. What both do alike they share: `Words`, `Gathered`,
+// `text_length`.
+ghost use Rattle.std.specs.Prelude.{◌≡◌, ◌≤◌, length, Some};
+ghost use Rattle.log_lines.specs.Line.{expected_text, read_from, write_from, call_in, text_length, line_of};
 
-use crate::hex::{Number, number_in};
-use crate::words::{byte_at, letter_in, word_from};
+use crate::words::{Words, letter_in, says_nothing};
+use std::fmt;
 
-#[derive(Clone, Copy)]
+#[derive(Clone, Copy, Debug, PartialEq, Eq)]
 pub enum Expected {
     // `w` or `r`.
     Call,
@@ -17,86 +20,62 @@ pub enum Expected {
     Shorter,
 }
 
-#[derive(Clone, Copy)]
+impl fmt::Display for Expected {
+    ghost output = { λ e. Some (expected_text e) };
+
+    fn fmt<W: fmt::Write>(&self, f: &mut fmt::Formatter<W>) -> fmt::Result {
+        f.write_str(match self {
+            Expected::Call => "a call, w or r",
+            Expected::Offset => "an offset, a hexadecimal byte",
+            Expected::Byte => "a value, a hexadecimal byte",
+            Expected::End => "the end of the line",
+            Expected::Shorter => "a line of at most 255 bytes",
+        })
+    }
+}
+
+#[derive(Clone, Copy, Debug, PartialEq, Eq)]
 pub enum Line {
     // A blank line, or a comment.
     Nothing,
     Read(u8),
     // The offset, then the byte.
     Write(u8, u8),
-    Malformed(Expected),
-}
-
-// That line, where no word follows.
-#[tactic(auto, unfolding(crate::specs::Line::ended_at))]
-fn ended(t: &[u8], at: usize, line: Line) -> Line
-    ensures { result ≡ ended_at t.now at line }
-{
-    let over = word_from(t, at).length() == 0;
-    if over {
-        return line;
-    }
-    Line::Malformed(Expected::End)
 }
 
 // What follows `r`.
-#[tactic(auto, unfolding(crate::specs::Line::read_from))]
-fn read_from(t: &[u8], at: usize) -> Line
-    ensures { result ≡ read_from t.now at }
+#[tactic(auto, unfolding(crate::specs::Line::read_from, crate::specs::Line::ended_at))]
+fn read_from(mut words: Words<'_>) -> Result<Line, Expected>
+    ensures { result ≡ read_from words.entry.text.now words.entry.at }
 {
-    let word = word_from(t, at);
-    let number = number_in(t, word);
-    match number {
-        Number::Byte(offset) => ended(t, word.stop, Line::Read(offset)),
-        Number::None => Line::Malformed(Expected::Offset),
-    }
-}
-
-// What follows the offset of a write.
-#[tactic(auto, unfolding(crate::specs::Line::byte_from))]
-fn byte_from(t: &[u8], at: usize, offset: u8) -> Line
-    ensures { result ≡ byte_from t.now at offset }
-{
-    let word = word_from(t, at);
-    let number = number_in(t, word);
-    match number {
-        Number::Byte(byte) => ended(t, word.stop, Line::Write(offset, byte)),
-        Number::None => Line::Malformed(Expected::Byte),
-    }
+    let offset = words.number().ok_or(Expected::Offset)?;
+    words.over(Line::Read(offset), Expected::End)
 }
 
 // What follows `w`.
-#[tactic(auto, unfolding(crate::specs::Line::write_from))]
-fn write_from(t: &[u8], at: usize) -> Line
-    ensures { result ≡ write_from t.now at }
+#[tactic(auto, unfolding(crate::specs::Line::write_from, crate::specs::Line::byte_from, crate::specs::Line::ended_at))]
+fn write_from(mut words: Words<'_>) -> Result<Line, Expected>
+    ensures { result ≡ write_from words.entry.text.now words.entry.at }
 {
-    let word = word_from(t, at);
-    let number = number_in(t, word);
-    match number {
-        Number::Byte(offset) => byte_from(t, word.stop, offset),
-        Number::None => Line::Malformed(Expected::Offset),
-    }
+    let offset = words.number().ok_or(Expected::Offset)?;
+    let byte = words.number().ok_or(Expected::Byte)?;
+    words.over(Line::Write(offset, byte), Expected::End)
 }
 
 #[tactic(auto, unfolding(crate::specs::Line::call_in))]
-fn call_in(t: &[u8]) -> Line
+fn call_in(t: &[u8]) -> Result<Line, Expected>
     ensures { result ≡ call_in t.now }
 {
-    let word = word_from(t, 0);
-    let nothing = (word.length() == 0) | (byte_at(t, word.start) == b'#');
-    if nothing {
-        return Line::Nothing;
+    let mut words = Words::new(t);
+    let word = words.word();
+    if says_nothing(t, word) {
+        return Ok(Line::Nothing);
     }
-    let letter = letter_in(t, word);
-    let reads = letter == b'r';
-    if reads {
-        return read_from(t, word.stop);
+    match letter_in(t, word) {
+        Some(b'r') => read_from(words),
+        Some(b'w') => write_from(words),
+        _ => Err(Expected::Call),
     }
-    let writes = letter == b'w';
-    if writes {
-        return write_from(t, word.stop);
-    }
-    Line::Malformed(Expected::Call)
 }
 
 // A line's length without the CR that may end it.
@@ -105,21 +84,16 @@ pub fn text_length(s: &[u8]) -> usize
     ensures value { result ≡ text_length s.now }
     ensures upper_bound { result ≤ length s.now }
 {
-    let n = s.len();
-    if 0 < n {
-        let cr = s[n - 1] == b'\r';
-        if cr {
-            return n - 1;
-        }
+    match s.split_last() {
+        Some((b'\r', text)) => text.len(),
+        _ => s.len(),
     }
-    n
 }
 
 // A line, without its line end.
 #[tactic(auto, unfolding(crate::specs::Line::line_of))]
-pub fn line_of(s: &[u8]) -> Line
+pub fn line_of(s: &[u8]) -> Result<Line, Expected>
     ensures { result ≡ line_of s.now }
 {
-    let n = text_length(s);
-    call_in(&s[..n])
+    call_in(&s[..text_length(s)])
 }

@@ -3,35 +3,15 @@
 use Prim.Native.Nat.{ℕ, suc, ◌+◌, ◌-◌, ◌≤◌, ◌<◌}
 use mathlib.Core.Bool.{Bool, true, false, cond}
 use mathlib.Core.List.{List}
-use mathlib.Core.Path.{◌≡◌, refl, sym, ap, ◌∙◌}
+use mathlib.Core.Path.{◌≡◌, refl, ap, ◌∙◌}
 use native.Mathlib.Omega.{arith}
-use lib.Dec.{eqb}
-use lib.ListN.{length}
 use Rattle.fdc.specs.declared.answer.Answer.{Answer}
 use Rattle.fdc.specs.declared.record.Controller.{Controller}
 use Rattle.fdc.specs.declared.answer.Reply.TheVariants.{Done}
 use Rattle.fdc.specs.Answer.{answer_of}
 use Rattle.fdc.specs.Registers.{int_of, drq_of}
-use Rattle.fdc.specs.Ticks.{tick_of, image_after, ruled_of}
-use Rattle.image.specs.Lent.{stored_in}
-use Rattle.image.proofs.StoreLaws.{effect_length}
-use Rattle.image.proofs.TestLaws.{by_test}
+use Rattle.fdc.specs.Ticks.{tick_of, image_after}
 use Rattle.many_ticks.specs.Run.{Ran, ran_with, ran_on, changed, changed_in, ran_for}
-
--- a tick keeps an image's length
-pub image_length : (k : ℕ) (a b : List ℕ) (c : Controller) (img : List ℕ) → length (image_after k a b c img) ≡ length img
-unfolding image_after
-image_length k a b c img =
-    by_test (eqb (ruled_of a b c).drive k) (λ (l : List ℕ). length l ≡ length img)
-    (stored_in (ruled_of a b c).effect img) img (λ e. effect_length (ruled_of a b c).effect img) (λ e. refl)
-
--- of two that are equal, the four parts
-pub parts : {r s : Ran} → r ≡ s
-    → (s.answer ≡ r.answer) × ((s.made ≡ r.made) × ((s.first ≡ r.first) × (s.second ≡ r.second)))
-parts e = (
-  ap (λ (r : Ran). r.answer) (sym e),
-  (ap (λ (r : Ran). r.made) (sym e), (ap (λ (r : Ran). r.first) (sym e), ap (λ (r : Ran). r.second) (sym e))),
-)
 
 -- the lines of a record, before and after
 pub changed_lines : (c : Controller) (int drq stops : Bool) (next : Answer) → int ≡ int_of c → drq ≡ drq_of c

@@ -4,18 +4,17 @@ use Prim.Native.Nat.{ℕ, zero, suc, ◌+◌, ◌-◌, ◌≤◌, ◌<◌}
 use native.Mathlib.Omega.{arith}
 use mathlib.Core.Bool.{Bool, true, false, not, ◌||◌, cond, beq, true≢false, false≢true}
 use mathlib.Core.List.{List}
-use mathlib.Core.Path.{◌≡◌, refl, sym, ap, ◌∙◌}
+use mathlib.Core.Path.{◌≡◌, refl, sym, ◌∙◌}
 use lib.Dec.{eqb, leb}
 use borrow.Author.Tests.{leb-false}
-use lib.ListN.{length, length-set}
 use Rattle.image.proofs.LayoutLaws.{size_le}
 use Rattle.image.proofs.TestLaws.{by_test}
 use Rattle.chip.specs.declared.fifo.Fifo.{Fifo}
-use Rattle.chip.specs.Fifo.{full_of, front_of, drawn_of}
+use Rattle.chip.specs.Fifo.{full_of, drawn_of}
 use Rattle.sectors.specs.declared.work.Site.{Site}
 use Rattle.sectors.specs.declared.work.Task.{Task}
 use Rattle.sectors.specs.Read.{last_byte}
-use Rattle.sectors.specs.Track.{pass_bytes, data_place}
+use Rattle.sectors.specs.Track.{pass_bytes}
 use Rattle.many_ticks.specs.declared.sector.Pace.{Pace}
 use Rattle.many_ticks.specs.Sector.{pace_of, read_rests, read_fill, reads_of}
 use Rattle.many_ticks.specs.Sector.{store_rests, StoredSector, pace_stored, byte_put, sector_stores}
@@ -50,24 +49,6 @@ store_room site task done fifo h =
     let last = leb-false (pass_bytes site task) done
     (neither (leb (pass_bytes site task) done) (eqb fifo.count 0) h).0 in
     omega (arith, last, size_le site.disk.n)
-
--- of two that are equal, the three parts
-pub parts : {s t : StoredSector} → s ≡ t → (s.pace ≡ t.pace) × ((s.first ≡ t.first) × (s.second ≡ t.second))
-parts e = (
-  ap (λ (s : StoredSector). s.pace) e,
-  (ap (λ (s : StoredSector). s.first) e, ap (λ (s : StoredSector). s.second) e),
-)
-
-pub stored_parts : {s : StoredSector} {pace : Pace} {a b : List ℕ} → pace ≡ s.pace → a ≡ s.first → b ≡ s.second
-    → pace_stored pace a b ≡ s
-stored_parts e f g = rw (e, f, g)
-
--- a store keeps an image's length
-pub put_length : (site : Site) (head slot k done : ℕ) (fifo : Fifo) (img : List ℕ)
-    → length (byte_put site head slot k done fifo img) ≡ length img
-put_length site head slot k done fifo img =
-    by_test (eqb site.drive k) (λ (l : List ℕ). length l ≡ length img) _ img
-    (λ _. length-set img (data_place site head slot done) (front_of fifo)) (λ _. refl)
 
 module _ (site : Site) (task : Task) (head slot : ℕ) (efifo : Bool) (fifothr : ℕ) (asks : Bool) where
   module _ (img : List ℕ) (done : ℕ) (fifo : Fifo) where

@@ -1,6 +1,8 @@
 -- While a sector's bytes pass and nothing else moves, the ticks made the short way are those of the rules (01 Calls,
 -- Read, Write).
 -- Assumes nothing.
+use Rattle.std.specs.Prelude.{Option, None, Some}
+use Rattle.image.specs.Lent.{put_at}
 use Prim.Native.Nat.{ℕ, zero, suc, ◌+◌, ◌-◌, ◌%◌, ◌≤◌, ◌<◌}
 use native.Mathlib.Omega.{arith}
 use mathlib.Core.Bool.{Bool, true, false, not, ◌||◌, cond, beq}
@@ -9,8 +11,7 @@ use mathlib.Core.Path.{◌≡◌, refl, sym, ◌∙◌, subst}
 use lib.Dec.{eqb, leb}
 use lib.ListN.{length, get_or, set}
 use borrow.Author.Tests.{leb-false}
-use Rattle.image.specs.declared.lent.Effect.{Effect}
-use Rattle.image.specs.declared.lent.Effect.TheVariants.{Nothing, Store}
+use Rattle.image.specs.Lent.{Effect}
 use Rattle.image.specs.Disk.{disk_in}
 use Rattle.image.specs.Lent.{pick_of, stored_as}
 use Rattle.image.proofs.DiskLaws.{store_keeps_disk}
@@ -51,7 +52,7 @@ use Rattle.many_ticks.proofs.RunLaws.{run_step}
 use Rattle.many_ticks.proofs.SectorLaws.{not-true, neither, reads_left, stores_left}
 use Rattle.many_ticks.specs.Run.{Ran, ran_with, ran_on, changed_in, ran_for, onward_of, no_tick_made}
 use Rattle.many_ticks.specs.declared.stream.Stream.{Stream}
-use Rattle.many_ticks.specs.declared.stream.Stream.TheVariants.{Other, Reads, Stores}
+use Rattle.many_ticks.specs.declared.stream.Stream.TheVariants.{Reads, Stores}
 use Rattle.many_ticks.specs.Stream.{stage_stream, work_stream, phase_stream}
 use Rattle.many_ticks.specs.Stream.{meets_of, kept, rests_of, stream_in}
 
@@ -63,7 +64,7 @@ stay : (n : ℕ) (r : Ran) → ran_for n r ≡ onward_of r.answer n r
 stay n r = rw (unchanged r.answer)
 
 -- no store
-none_stored : (drive k : ℕ) (img : List ℕ) → stored_as drive k Nothing img ≡ img
+none_stored : (drive k : ℕ) (img : List ℕ) → stored_as drive k None img ≡ img
 none_stored drive k img = go (eqb drive k)
   where
     go : (t : Bool) → cond t img img ≡ img
@@ -72,7 +73,7 @@ none_stored drive k img = go (eqb drive k)
 
 -- a store behind the header keeps the disk of the drive that it goes to
 disk_picked : (drive at byte : ℕ) (a b : List ℕ) → 13 ≤ at
-    → disk_in (pick_of drive (stored_as drive 0 (Store at byte) a) (stored_as drive 1 (Store at byte) b))
+    → disk_in (pick_of drive (stored_as drive 0 (Some (put_at at byte)) a) (stored_as drive 1 (Some (put_at at byte)) b))
     ≡ disk_in (pick_of drive a b)
 disk_picked drive at byte a b h = go (eqb drive 0) (eqb drive 1)
   where
@@ -202,7 +203,7 @@ module _ (c : Controller) (site : Site) (task : Task) where
       → read_rests site task efifo done fifo ≡ false
       → stage_of (Reading sector done) site task head img fifo efifo fifothr
       ≡ moves_of (Reading sector (done + 1)) site task (read_fill site head sector.slot img efifo fifothr done fifo)
-      Nothing
+      None
   unfolding stage_of read_of read_on
   read_moves sector done head img fifo efifo fifothr rests =
       let tests = neither (fifo.tc || full_of efifo fifo) (last_byte site task done) rests in
@@ -254,7 +255,7 @@ module _ (c : Controller) (site : Site) (task : Task) where
         ≡ onward_of (shown (Reading sector done) fifo) n
         (ran_with (shown (Reading sector (done + 1)) (filled done fifo)) (m + 1) a b)
     read_goes n m done fifo v rests =
-        let h = once a b s (Reading sector done) (Reading sector (done + 1)) fifo (filled done fifo) Nothing m n v
+        let h = once a b s (Reading sector done) (Reading sector (done + 1)) fifo (filled done fifo) None m n v
         (read_moves sector done head_of (pick_of site.drive a b) fifo c.registers.efifo c.registers.fifothr
         rests) in
         rw (none_stored site.drive 0 a, none_stored site.drive 1 b) at h
@@ -285,7 +286,7 @@ module _ (c : Controller) (site : Site) (task : Task) where
       → store_rests site task done fifo ≡ false
       → stage_of (Storing slot done) site task head img fifo efifo fifothr
       ≡ moves_of (Storing slot (done + 1)) site task (drawn_of efifo fifothr fifo)
-      (Store (data_place site head slot done) (front_of fifo))
+      (Some (put_at (data_place site head slot done) (front_of fifo)))
   unfolding stage_of store_of put_of
   store_moves slot done head img fifo efifo fifothr rests =
       let tests = neither (leb (pass_bytes site task) done) (eqb fifo.count 0) rests in rw (tests.0, tests.1)
@@ -328,7 +329,7 @@ module _ (c : Controller) (site : Site) (task : Task) where
         (ran_with (shown (Storing slot (done + 1)) (drawn fifo)) (m + 1) (put 0 done fifo a) (put 1 done fifo b))
     store_goes n m done fifo a b s v rests =
         once a b s (Storing slot done) (Storing slot (done + 1)) fifo (drawn fifo)
-        (Store (data_place site head_of slot done) (front_of fifo)) m n v
+        (Some (put_at (data_place site head_of slot done) (front_of fifo))) m n v
         (store_moves slot done head_of (pick_of site.drive a b) fifo c.registers.efifo c.registers.fifothr rests)
 
     -- 01 Image: no store touches the header
@@ -378,11 +379,11 @@ module _ (c : Controller) (site : Site) (task : Task) where
         rw z (store_goes n m done fifo a b s v rests)))
 
 -- what a stream says of its record
-abbrev Meant : List ℕ → List ℕ → Controller → Stream → Type 0
-Meant a b c Other = Unit {0}
-Meant a b c (Reads site task sector done) =
+abbrev Meant : List ℕ → List ℕ → Controller → Option Stream → Type 0
+Meant a b c None = Unit {0}
+Meant a b c (Some (Reads site task sector done)) =
     Steady site a b c × (c.phase ≡ Working (Moving site task (Reading sector done)))
-Meant a b c (Stores site task slot done) =
+Meant a b c (Some (Stores site task slot done)) =
     Steady site a b c × (c.phase ≡ Working (Moving site task (Storing slot done)))
 
 module _ (a b : List ℕ) (c : Controller) (four : length c.drives ≡ 4) where
@@ -429,7 +430,7 @@ module _ (a b : List ℕ) (c : Controller) (four : length c.drives ≡ 4) where
   module _ (v : valid_of c ≡ true) (n : ℕ) where
     -- 01 Read: the ticks by the rules are those made the short way
     pub reads_ticks : (site : Site) (task : Task) (sector : Sector) (done : ℕ) (p : Pace)
-        → stream_in a b c ≡ Reads site task sector done
+        → stream_in a b c ≡ Some (Reads site task sector done)
         → p
         ≡ reads_of site task (drive_at (site.drive % 4) c.drives).head sector.slot (pick_of site.drive a b)
         c.registers.efifo c.registers.fifothr c.fifo.asks n done c.fifo
@@ -438,7 +439,7 @@ module _ (a b : List ℕ) (c : Controller) (four : length c.drives ≡ 4) where
         (ran_with (answer_of Done (at_of c site task (Reading sector p.done) p.fifo)) (n - p.left) a b)
         ≡ ran_for n (no_tick_made a b c))
     reads_ticks site task sector done p stream pace =
-        let m : Meant a b c (Reads site task sector done) = subst (Meant a b c) stream meant in
+        let m : Meant a b c (Some (Reads site task sector done)) = subst (Meant a b c) stream meant in
         let start = at_start c site task (Reading sector done) m.1 in
         let ran = reads_run c site task sector a b m.0 c.fifo.asks n 0 done c.fifo (rw start v) refl in
         let few = reads_left site task (head_of c site task) sector.slot c.registers.efifo c.registers.fifothr
@@ -448,7 +449,7 @@ module _ (a b : List ℕ) (c : Controller) (four : length c.drives ≡ 4) where
 
     -- 01 Write
     pub stores_ticks : (site : Site) (task : Task) (slot done : ℕ) (p : Pace) (a' b' : List ℕ)
-        → stream_in a b c ≡ Stores site task slot done
+        → stream_in a b c ≡ Some (Stores site task slot done)
         → pace_stored p a' b'
         ≡ sector_stores site task (drive_at (site.drive % 4) c.drives).head slot c.registers.efifo
         c.registers.fifothr c.fifo.asks n done c.fifo a b
@@ -457,7 +458,7 @@ module _ (a b : List ℕ) (c : Controller) (four : length c.drives ≡ 4) where
         (ran_with (answer_of Done (at_of c site task (Storing slot p.done) p.fifo)) (n - p.left) a' b')
         ≡ ran_for n (no_tick_made a b c))
     stores_ticks site task slot done p a' b' stream pace =
-        let m : Meant a b c (Stores site task slot done) = subst (Meant a b c) stream meant in
+        let m : Meant a b c (Some (Stores site task slot done)) = subst (Meant a b c) stream meant in
         let start = at_start c site task (Storing slot done) m.1 in
         let ran = stores_run c site task slot c.fifo.asks n 0 done c.fifo a b m.0 (rw start v) refl in
         let few = stores_left site task (head_of c site task) slot c.registers.efifo c.registers.fifothr

@@ -1,9 +1,9 @@
 -- A sector's bytes, many ticks at once (house): each is passed as 01 Read and 01 Write have it, as long as one more
 -- follows and the request stays as it is.
 -- Assumes nothing.
-use Rattle.std.specs.Prelude.{ℕ, zero, suc, ◌+◌, Bool, false, ◌||◌, cond, List, eqb, leb, get_or}
+use Rattle.image.specs.Lent.{put_at}
+use Rattle.std.specs.Prelude.{ℕ, zero, suc, ◌+◌, Bool, false, ◌||◌, cond, List, eqb, leb, get_or, Some}
 use Rattle.std.specs.Bool.{beq}
-use Rattle.image.specs.declared.lent.Effect.TheVariants.{Store}
 use Rattle.image.specs.Lent.{stored_as}
 use Rattle.chip.specs.declared.fifo.Fifo.{Fifo}
 use Rattle.chip.specs.Fifo.{full_of, front_of, filled_of, drawn_of}
@@ -50,7 +50,7 @@ pace_stored pace a b = record { pace = pace; first = a; second = b }
 -- 01 Write: one store a tick
 abbrev pub byte_put : Site → ℕ → ℕ → ℕ → ℕ → Fifo → List ℕ → List ℕ
 byte_put site head slot k done fifo img =
-    stored_as site.drive k (Store (data_place site head slot done) (front_of fifo)) img
+    stored_as site.drive k (Some (put_at (data_place site head slot done) (front_of fifo))) img
 
 unfoldable pub sector_stores : Site → Task → ℕ → ℕ → Bool → ℕ → Bool → ℕ → ℕ → Fifo → List ℕ → List ℕ → StoredSector
 sector_stores site task head slot efifo fifothr asks zero done fifo a b = pace_stored (pace_of done fifo 0) a b

@@ -1,5 +1,6 @@
-// Many ticks (house): up to and with the first that changes INT or DRQ.
-ghost use Rattle.std.specs.Prelude.{true, ◌≡◌, ◌-◌, ◌≤◌, length};
+// Many ticks (house): up to and with the first that changes INT or DRQ. The images stay two slices, as a call lends them
+// (01 Calls).
+ghost use Rattle.std.specs.Prelude.{true, Some, ◌≡◌, ◌-◌, ◌≤◌, length};
 ghost use Rattle.fdc.specs.declared.answer.Reply.TheVariants.{Done};
 ghost use Rattle.fdc.specs.Answer.{answer_of};
 ghost use Rattle.fdc.specs.Record.{valid_of};
@@ -12,7 +13,7 @@ use crate::stream::{Stream, stream_in};
 use chip::refusal::Refusal;
 use fdc::answer::{Answer, Reply};
 use fdc::record::{Controller, Phase};
-use sectors::work::{Sector, Site, Stage, Task, Work};
+use sectors::work::{Moving, Sector, Site, Stage, Task, Work};
 
 // The last tick's answer, and how many were made.
 #[derive(Clone, Copy)]
@@ -24,30 +25,20 @@ pub struct Ran {
 fn differ(int: bool, drq: bool, next_int: bool, next_drq: bool) -> bool
     ensures { result ≡ changed int drq next_int next_drq }
 {
-    !((int == next_int) & (drq == next_drq))
+    (int, drq) != (next_int, next_drq)
 }
 
 // The ticks left of n, each in full.
-#[tactic(auto, using(crate::proofs::RunLaws::image_length, crate::proofs::RunLaws::goes_on_lem))]
+#[tactic(auto, using(crate::proofs::RunLaws::goes_on_lem, crate::proofs::RunLaws::finished))]
 fn run(c: Controller, a: &mut [u8], b: &mut [u8], n: u32, rest: u32) -> Ran
     requires { rest ≤ n }
-    ensures answer { result.answer
-        ≡ (ran_for rest (ran_with (answer_of Done c) (n - rest) a.old b.old)).answer }
-    ensures made { result.made
-        ≡ (ran_for rest (ran_with (answer_of Done c) (n - rest) a.old b.old)).made }
-    ensures first { a.new
-        ≡ (ran_for rest (ran_with (answer_of Done c) (n - rest) a.old b.old)).first }
-    ensures second { b.new
-        ≡ (ran_for rest (ran_with (answer_of Done c) (n - rest) a.old b.old)).second }
+    ensures { ran_with result.answer result.made a.new b.new
+        ≡ ran_for rest (ran_with (answer_of Done c) (n - rest) a.old b.old) }
 {
     let mut answer = c.answer(Reply::Done);
-    let mut left = rest;
-    while 0 < left {
-        let controller = answer.controller;
-        let next = controller.tick(a, b);
-        let stops = differ(answer.int, answer.drq, next.int, next.drq);
-        left -= 1;
-        if stops {
+    for left in (0..rest).rev() {
+        let next = answer.controller.tick(a, b);
+        if differ(answer.int, answer.drq, next.int, next.drq) {
             return Ran {
                 answer: next,
                 made: n - left,
@@ -62,18 +53,11 @@ fn run(c: Controller, a: &mut [u8], b: &mut [u8], n: u32, rest: u32) -> Ran
 #[tactic(auto, using(crate::proofs::RunLaws::changed_lines))]
 fn onward(c: Controller, next: Controller, a: &mut [u8], b: &mut [u8], n: u32, left: u32) -> Ran
     requires { left ≤ n }
-    ensures answer { result.answer
-        ≡ (onward_of (answer_of Done c) left (ran_with (answer_of Done next) (n - left) a.old b.old)).answer }
-    ensures made { result.made
-        ≡ (onward_of (answer_of Done c) left (ran_with (answer_of Done next) (n - left) a.old b.old)).made }
-    ensures first { a.new
-        ≡ (onward_of (answer_of Done c) left (ran_with (answer_of Done next) (n - left) a.old b.old)).first }
-    ensures second { b.new
-        ≡ (onward_of (answer_of Done c) left (ran_with (answer_of Done next) (n - left) a.old b.old)).second }
+    ensures { ran_with result.answer result.made a.new b.new
+        ≡ onward_of (answer_of Done c) left (ran_with (answer_of Done next) (n - left) a.old b.old) }
 {
     let answer = next.answer(Reply::Done);
-    let stops = differ(c.int(), c.drq(), answer.int, answer.drq);
-    if stops {
+    if differ(c.int(), c.drq(), answer.int, answer.drq) {
         return Ran {
             answer,
             made: n - left,
@@ -82,7 +66,10 @@ fn onward(c: Controller, next: Controller, a: &mut [u8], b: &mut [u8], n: u32, l
     run(next, a, b, n, left)
 }
 
-// A Read in a sector.
+// A Read in a sector. It and `storing` differ in the loop, the stage and the theorem: one function of both would be handed
+// all three, and say no less. Behind the record comes what `Reads` and `Stores` carry, of which the theorems speak. No struct
+// holds the three premises of these two and `streamed`: `stream_in` is of the images as they are lent, so that a struct would
+// have what stands in both as ghost fields, and each function would still ask that a and b are these.
 #[tactic(auto, using(crate::proofs::StreamLaws::reads_ticks))]
 fn reading(
     c: Controller,
@@ -96,27 +83,18 @@ fn reading(
 ) -> Ran
     requires c_value { valid_of c ≡ true }
     requires drives_len { length c.drives ≡ 4 }
-    requires c_value_2 { stream_in a.old b.old c ≡ Reads site task sector done }
-    ensures answer { result.answer ≡ (ran_for n (no_tick_made a.old b.old c)).answer }
-    ensures made { result.made ≡ (ran_for n (no_tick_made a.old b.old c)).made }
-    ensures first { a.new ≡ (ran_for n (no_tick_made a.old b.old c)).first }
-    ensures second { b.new ≡ (ran_for n (no_tick_made a.old b.old c)).second }
+    requires c_value_2 { stream_in a.old b.old c ≡ Some (Reads site task sector done) }
+    ensures { ran_with result.answer result.made a.new b.new
+        ≡ ran_for n (no_tick_made a.old b.old c) }
 {
-    let d = c.drive(site.drive);
-    let fifo = c.fifo;
-    let p = reads(
-        sector.slot,
-        done,
+    let moving = Moving {
         site,
         task,
-        d.head,
-        a,
-        b,
-        fifo,
-        c.registers.efifo,
-        c.registers.fifothr,
-        n,
-    );
+        head: c.drive(site.drive).head,
+        fifo: c.fifo,
+        set: c.registers.setting(),
+    };
+    let p = reads(moving, sector.slot, done, a, b, n);
     let next = c.with_phase(Phase::Working(Work::Moving(
         site,
         task,
@@ -126,7 +104,7 @@ fn reading(
 }
 
 // A Write in a sector.
-#[tactic(auto, using(crate::proofs::SectorLaws::stored_parts, crate::proofs::StreamLaws::stores_ticks))]
+#[tactic(auto, using(crate::proofs::StreamLaws::stores_ticks))]
 fn storing(
     c: Controller,
     site: Site,
@@ -139,44 +117,35 @@ fn storing(
 ) -> Ran
     requires c_value { valid_of c ≡ true }
     requires drives_len { length c.drives ≡ 4 }
-    requires c_value_2 { stream_in a.old b.old c ≡ Stores site task slot done }
-    ensures answer { result.answer ≡ (ran_for n (no_tick_made a.old b.old c)).answer }
-    ensures made { result.made ≡ (ran_for n (no_tick_made a.old b.old c)).made }
-    ensures first { a.new ≡ (ran_for n (no_tick_made a.old b.old c)).first }
-    ensures second { b.new ≡ (ran_for n (no_tick_made a.old b.old c)).second }
+    requires c_value_2 { stream_in a.old b.old c ≡ Some (Stores site task slot done) }
+    ensures { ran_with result.answer result.made a.new b.new
+        ≡ ran_for n (no_tick_made a.old b.old c) }
 {
-    let d = c.drive(site.drive);
-    let fifo = c.fifo;
-    let p = stores(
-        slot,
-        done,
+    let moving = Moving {
         site,
         task,
-        d.head,
-        a,
-        b,
-        fifo,
-        c.registers.efifo,
-        c.registers.fifothr,
-        n,
-    );
+        head: c.drive(site.drive).head,
+        fifo: c.fifo,
+        set: c.registers.setting(),
+    };
+    let p = stores(moving, slot, done, a, b, n);
     let next = c.with_phase(Phase::Working(Work::Moving(site, task, Stage::Storing(slot, p.done))));
     onward(c, next.with_fifo(p.fifo), a, b, n, p.left)
 }
 
-fn streamed(c: Controller, stream: Stream, a: &mut [u8], b: &mut [u8], n: u32) -> Ran
+fn streamed(c: Controller, stream: Option<Stream>, a: &mut [u8], b: &mut [u8], n: u32) -> Ran
     requires c_value { valid_of c ≡ true }
     requires drives_len { length c.drives ≡ 4 }
     requires c_value_2 { stream_in a.old b.old c ≡ stream }
-    ensures answer { result.answer ≡ (ran_for n (no_tick_made a.old b.old c)).answer }
-    ensures made { result.made ≡ (ran_for n (no_tick_made a.old b.old c)).made }
-    ensures first { a.new ≡ (ran_for n (no_tick_made a.old b.old c)).first }
-    ensures second { b.new ≡ (ran_for n (no_tick_made a.old b.old c)).second }
+    ensures { ran_with result.answer result.made a.new b.new
+        ≡ ran_for n (no_tick_made a.old b.old c) }
 {
     match stream {
-        Stream::Other => run(c, a, b, n, n),
-        Stream::Reads(site, task, sector, done) => reading(c, site, task, sector, done, a, b, n),
-        Stream::Stores(site, task, slot, done) => storing(c, site, task, slot, done, a, b, n),
+        None => run(c, a, b, n, n),
+        Some(Stream::Reads(site, task, sector, done)) => reading(
+            c, site, task, sector, done, a, b, n,
+        ),
+        Some(Stream::Stores(site, task, slot, done)) => storing(c, site, task, slot, done, a, b, n),
     }
 }
 
@@ -187,8 +156,7 @@ pub fn ticks(c: Controller, a: &mut [u8], b: &mut [u8], n: u32) -> Ran
     ensures first { a.new ≡ (many_ticks n a.old b.old c).first }
     ensures second { b.new ≡ (many_ticks n a.old b.old c).second }
 {
-    let valid = c.valid();
-    if valid {
+    if c.valid() {
         let stream = stream_in(c, a, b);
         return streamed(c, stream, a, b, n);
     }

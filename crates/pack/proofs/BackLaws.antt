@@ -86,7 +86,7 @@ spelt_part d l k (suc n) h =
     let rest : suc k + n ≤ length l = omega arith in
     rw (drop-cons l k d below) (ap (λ r. get_or l k d ∷ r) (spelt_part d l (suc k) n rest))
 
-spelt_whole : {A : Type 0} (d : A) (l : List A) (n : ℕ) → length l ≡ n → spelt d l 0 n ≡ l
+pub spelt_whole : {A : Type 0} (d : A) (l : List A) (n : ℕ) → length l ≡ n → spelt d l 0 n ≡ l
 spelt_whole d l n e =
     let h : 0 + n ≤ length l = omega arith in
     let g : length l ≤ n = omega arith in

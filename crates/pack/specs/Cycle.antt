@@ -43,9 +43,13 @@ unfoldable pub cycles_in : List ℕ → Bool
 cycles_in l =
     asked_in (row_at l registers_row) (row_at l flow_row) (row_at l phase_row) && bounded_in l && drives_still l
 
+-- one of that direction
+abbrev pub due_in : ℕ → List ℕ → Bool
+due_in pass l = cond (leb record_size (length l)) (cycles_in l && eqb (byte_at (row_at l task_row) pass_at) pass) false
+
 -- to the host, and from it
 unfoldable pub reading_in : List ℕ → Bool
-reading_in l = cond (leb record_size (length l)) (cycles_in l && eqb (byte_at (row_at l task_row) pass_at) 0) false
+reading_in l = due_in 0 l
 
 unfoldable pub writing_in : List ℕ → Bool
-writing_in l = cond (leb record_size (length l)) (cycles_in l && eqb (byte_at (row_at l task_row) pass_at) 1) false
+writing_in l = due_in 1 l

@@ -1,32 +1,9 @@
-// A flag, a number of 16 bits and an enum as bytes of the record, and read back.
-ghost use Rattle.std.specs.Prelude.{◌≡◌, ◌+◌, ◌*◌, ◌/◌, ◌%◌};
-ghost use Rattle.pack.specs.Bytes.{bit_of, high_of, low_of, wide_of, pass_number, pass_numbered};
+// The direction of a transfer as a byte of the record, and read back. They are no From of Pass, which is the crate
+// sectors': the numbers are the record's bytes (the C interface), and `pass_number` and `pass_numbered` here say them.
+ghost use Rattle.std.specs.Prelude.{◌≡◌};
+ghost use Rattle.pack.specs.Bytes.{pass_number, pass_numbered};
 
 use sectors::order::Pass;
-
-pub fn bit(flag: bool) -> u8
-    ensures { result ≡ bit_of flag }
-{
-    if flag { 1 } else { 0 }
-}
-
-pub fn high(x: u16) -> u8
-    ensures { result ≡ high_of x }
-{
-    (x / 256 % 256) as u8
-}
-
-pub fn low(x: u16) -> u8
-    ensures { result ≡ low_of x }
-{
-    (x % 256) as u8
-}
-
-pub fn wide(high: u8, low: u8) -> u16
-    ensures { result ≡ wide_of high low }
-{
-    high as u16 * 256 + low as u16
-}
 
 pub fn pass_number(pass: Pass) -> u8
     ensures { result ≡ pass_number pass }

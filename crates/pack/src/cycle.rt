@@ -1,7 +1,7 @@
 // What a DMA cycle asks of the record, read from its bytes (01 FIFO, Refusals 3).
-ghost use Rattle.std.specs.Prelude.{◌≡◌, ◌≤◌, length};
+ghost use Rattle.std.specs.Prelude.{◌≡◌};
 ghost use Rattle.fdc.specs.Registers.{pending_in};
-ghost use Rattle.pack.specs.Bytes.{record_size, loaded_of};
+ghost use Rattle.pack.specs.Bytes.{loaded_of, pass_number};
 ghost use Rattle.pack.specs.Cycle.{
   asked_in,
   fifo_bounded,
@@ -10,18 +10,20 @@ ghost use Rattle.pack.specs.Cycle.{
   still_in,
   drives_still,
   cycles_in,
+  due_in,
   reading_in,
   writing_in,
 };
 
+use crate::bytes::pass_number;
 use crate::places::{
-    ASKS_AT, COMMAND_ROW, COUNT_AT, DOR_AT, DRIVE0_ROW, DRIVE1_ROW, DRIVE2_ROW, DRIVE3_ROW,
-    EFIFO_AT, FIFOTHR_AT, FLOW_ROW, GATHERED_AT, HEAD_AT, LEFT_AT, MOTION_AT, PASS_AT, PHASE_ROW,
-    RECORD_SIZE, REGISTERS_ROW, REPORT_AT, RESULT_ROW, SPEC2_AT, SPOT_COUNT_AT, SPOT_ROW, TAG_AT,
-    TASK_ROW, WORK_AT,
+    ASKS_AT, COMMAND_ROW, COUNT_AT, DOR_AT, EFIFO_AT, FIFOTHR_AT, FLOW_ROW, GATHERED_AT, HEAD_AT,
+    LEFT_AT, MOTION_AT, PASS_AT, PHASE_ROW, RECORD_SIZE, REGISTERS_ROW, REPORT_AT, RESULT_ROW,
+    SPEC2_AT, SPOT_COUNT_AT, SPOT_ROW, TAG_AT, TASK_ROW, WORK_AT,
 };
-use crate::rows::row_at;
+use crate::rows::{drive_rows, row_at};
 use chip::fifo::capacity;
+use sectors::order::Pass;
 
 #[tactic(auto, unfolding(crate::specs::Cycle::asked_in))]
 fn asked(registers: [u8; 16], flow: [u8; 16], head: [u8; 16]) -> bool
@@ -56,39 +58,44 @@ fn still(row: [u8; 16]) -> bool
 }
 
 #[tactic(auto, unfolding(crate::specs::Cycle::bounded_in))]
-fn bounded(s: &[u8]) -> bool
-    requires { record_size ≤ length s.now }
-    ensures { result ≡ bounded_in s.now }
+fn bounded(r: &[u8; RECORD_SIZE]) -> bool
+    ensures { result ≡ bounded_in r.now }
 {
-    fifo_bounded(row_at(s, REGISTERS_ROW), row_at(s, FLOW_ROW))
+    fifo_bounded(row_at(r, REGISTERS_ROW), row_at(r, FLOW_ROW))
         & counts_bounded(
-            row_at(s, COMMAND_ROW),
-            row_at(s, RESULT_ROW),
-            row_at(s, SPOT_ROW),
+            row_at(r, COMMAND_ROW),
+            row_at(r, RESULT_ROW),
+            row_at(r, SPOT_ROW),
         )
 }
 
-fn drives_still(s: &[u8]) -> bool
-    requires { record_size ≤ length s.now }
-    ensures { result ≡ drives_still s.now }
+fn drives_still(r: &[u8; RECORD_SIZE]) -> bool
+    ensures { result ≡ drives_still r.now }
 {
-    still(row_at(s, DRIVE0_ROW))
-        & still(row_at(s, DRIVE1_ROW))
-        & still(row_at(s, DRIVE2_ROW))
-        & still(row_at(s, DRIVE3_ROW))
+    let [a, b, c, d] = drive_rows(r);
+    still(a) & still(b) & still(c) & still(d)
 }
 
 #[tactic(auto, unfolding(crate::specs::Cycle::cycles_in))]
-fn cycles(s: &[u8]) -> bool
-    requires { record_size ≤ length s.now }
-    ensures { result ≡ cycles_in s.now }
+fn cycles(r: &[u8; RECORD_SIZE]) -> bool
+    ensures { result ≡ cycles_in r.now }
 {
     asked(
-        row_at(s, REGISTERS_ROW),
-        row_at(s, FLOW_ROW),
-        row_at(s, PHASE_ROW),
-    ) & bounded(s)
-        & drives_still(s)
+        row_at(r, REGISTERS_ROW),
+        row_at(r, FLOW_ROW),
+        row_at(r, PHASE_ROW),
+    ) & bounded(r)
+        & drives_still(r)
+}
+
+// A cycle of that direction is due.
+fn due(s: &[u8], pass: Pass) -> bool
+    ensures { result ≡ due_in (pass_number pass) s.now }
+{
+    let Some(r) = s.first_chunk() else {
+        return false;
+    };
+    cycles(r) & (row_at(r, TASK_ROW)[PASS_AT] == pass_number(pass))
 }
 
 // A cycle to the host is due.
@@ -96,12 +103,7 @@ fn cycles(s: &[u8]) -> bool
 pub fn reading(s: &[u8]) -> bool
     ensures { result ≡ reading_in s.now }
 {
-    let enough = RECORD_SIZE <= s.len();
-    if enough {
-        let task = row_at(s, TASK_ROW);
-        return cycles(s) & (task[PASS_AT] == 0);
-    }
-    false
+    due(s, Pass::Read)
 }
 
 // A cycle from the host is due.
@@ -109,42 +111,28 @@ pub fn reading(s: &[u8]) -> bool
 pub fn writing(s: &[u8]) -> bool
     ensures { result ≡ writing_in s.now }
 {
-    let enough = RECORD_SIZE <= s.len();
-    if enough {
-        let task = row_at(s, TASK_ROW);
-        return cycles(s) & (task[PASS_AT] == 1);
-    }
-    false
+    due(s, Pass::Write)
 }
 
 // A drive's report is pending.
-#[tactic(auto, unfolding(fdc::specs::Registers::pending_in, crate::specs::Bytes::loaded_of, crate::specs::Bytes::record_in, fdc::specs::Record::fresh_of))]
+#[tactic(auto, unfolding(fdc::specs::Registers::pending_in, crate::specs::Bytes::loaded_of, fdc::specs::Record::fresh_of))]
 pub fn pending(s: &[u8]) -> bool
     ensures { result ≡ pending_in (loaded_of s.now).drives }
 {
-    let enough = RECORD_SIZE <= s.len();
-    if enough {
-        let a = row_at(s, DRIVE0_ROW);
-        let b = row_at(s, DRIVE1_ROW);
-        let c = row_at(s, DRIVE2_ROW);
-        let d = row_at(s, DRIVE3_ROW);
-        return (a[REPORT_AT] != 0)
-            | (b[REPORT_AT] != 0)
-            | (c[REPORT_AT] != 0)
-            | (d[REPORT_AT] != 0);
-    }
-    false
+    let Some(r) = s.first_chunk() else {
+        return false;
+    };
+    let [a, b, c, d] = drive_rows(r);
+    (a[REPORT_AT] != 0) | (b[REPORT_AT] != 0) | (c[REPORT_AT] != 0) | (d[REPORT_AT] != 0)
 }
 
 // 1: the FIFO holds one byte.
-#[tactic(auto, unfolding(crate::specs::Bytes::loaded_of, crate::specs::Bytes::record_in, fdc::specs::Record::fresh_of))]
+#[tactic(auto, unfolding(crate::specs::Bytes::loaded_of, fdc::specs::Record::fresh_of))]
 pub fn efifo(s: &[u8]) -> bool
     ensures { result ≡ (loaded_of s.now).registers.efifo }
 {
-    let enough = RECORD_SIZE <= s.len();
-    if enough {
-        let registers = row_at(s, REGISTERS_ROW);
-        return registers[EFIFO_AT] == 1;
-    }
-    true
+    let Some(r) = s.first_chunk() else {
+        return true;
+    };
+    row_at(r, REGISTERS_ROW)[EFIFO_AT] == 1
 }

@@ -1,51 +1,40 @@
 // A row of the record: sixteen bytes from a place on.
-ghost use Rattle.std.specs.Prelude.{◌≡◌, ◌+◌, ◌≤◌, length};
+ghost use Rattle.std.specs.Prelude.{[], ◌∷◌, ◌≡◌, ◌+◌, ◌≤◌};
 ghost use Rattle.std.proofs.lemmas.List.Edits.{sets};
-ghost use Rattle.pack.specs.Bytes.{row_at};
+ghost use Rattle.pack.specs.Bytes.{record_size, row_at};
+ghost use Rattle.pack.specs.Places.{drive_row};
 
-pub fn row_at(s: &[u8], at: usize) -> [u8; 16]
-    requires { at + 16 ≤ length s.now }
-    ensures { result ≡ row_at s.now at }
+use crate::places::{DRIVE0_ROW, DRIVE1_ROW, DRIVE2_ROW, DRIVE3_ROW, RECORD_SIZE};
+
+#[tactic(auto, using(crate::proofs::RowLaws::row_read))]
+pub fn row_at(r: &[u8; RECORD_SIZE], at: usize) -> [u8; 16]
+    requires { at + 16 ≤ record_size }
+    ensures { result ≡ row_at r.now at }
 {
-    [
-        s[at],
-        s[at + 1],
-        s[at + 2],
-        s[at + 3],
-        s[at + 4],
-        s[at + 5],
-        s[at + 6],
-        s[at + 7],
-        s[at + 8],
-        s[at + 9],
-        s[at + 10],
-        s[at + 11],
-        s[at + 12],
-        s[at + 13],
-        s[at + 14],
-        s[at + 15],
-    ]
+    let mut row = [0; 16];
+    row.copy_from_slice(&r[at..at + 16]);
+    row
 }
 
-#[tactic(auto, using(crate::proofs::PutLaws::row_put))]
-pub fn put_row(s: &mut [u8], at: usize, row: [u8; 16])
-    requires { at + 16 ≤ length s.old }
-    ensures { s.new ≡ sets s.old at (row_at row 0) }
+#[tactic(auto, using(crate::proofs::RowLaws::row_written))]
+pub fn put_row(r: &mut [u8; RECORD_SIZE], at: usize, row: [u8; 16])
+    requires { at + 16 ≤ record_size }
+    ensures { r.new ≡ sets r.old at (row_at row 0) }
 {
-    s[at] = row[0];
-    s[at + 1] = row[1];
-    s[at + 2] = row[2];
-    s[at + 3] = row[3];
-    s[at + 4] = row[4];
-    s[at + 5] = row[5];
-    s[at + 6] = row[6];
-    s[at + 7] = row[7];
-    s[at + 8] = row[8];
-    s[at + 9] = row[9];
-    s[at + 10] = row[10];
-    s[at + 11] = row[11];
-    s[at + 12] = row[12];
-    s[at + 13] = row[13];
-    s[at + 14] = row[14];
-    s[at + 15] = row[15];
+    r[at..at + 16].copy_from_slice(&row);
+}
+
+// Where each is tested or read, the four are named: tried, the proofs of `all` (drives_still, drives_ok), `any`
+// (pending) and `map` (drives_in) did not close over rows that are themselves read.
+pub fn drive_rows(r: &[u8; RECORD_SIZE]) -> [[u8; 16]; 4]
+    ensures { result
+        ≡ row_at r.now (drive_row 0) ∷ row_at r.now (drive_row 1)
+        ∷ row_at r.now (drive_row 2) ∷ row_at r.now (drive_row 3) ∷ [] }
+{
+    [
+        row_at(r, DRIVE0_ROW),
+        row_at(r, DRIVE1_ROW),
+        row_at(r, DRIVE2_ROW),
+        row_at(r, DRIVE3_ROW),
+    ]
 }

@@ -1,8 +1,7 @@
 // The record read from its bytes.
-ghost use Rattle.std.specs.Prelude.{◌≡◌, ◌≤◌, length};
+ghost use Rattle.std.specs.Prelude.{◌≡◌};
 ghost use Rattle.pack.specs.Bytes.{
   row_at,
-  record_size,
   registers_in,
   drives_in,
   fifo_in,
@@ -29,24 +28,24 @@ ghost use Rattle.pack.specs.Bytes.{
 };
 ghost use Rattle.pack.specs.Places.{fifo_row, flow_row, command_row, result_row};
 
-use crate::bytes::{pass_numbered, wide};
+use crate::bytes::pass_numbered;
 use crate::drives::drive_in;
-use crate::flat::{Flat, Spot, phase_of};
+use crate::flat::{Flat, Spot};
 use crate::places::{
     ASKS_AT, BAD_AT, BROKEN_AT, BUSY_AT, C_AT, CHANGED_AT, COMMAND_ROW, COUNT_AT, CYLINDERS_AT,
-    DELETED_AT, DISK_SIZE_AT, DONE_AT, DOR_AT, DRIVE_NUMBER_AT, DRIVE0_ROW, DRIVE1_ROW, DRIVE2_ROW,
-    DRIVE3_ROW, DTL_AT, DUE_AT, EFIFO_AT, EIS_AT, EOT_AT, FIFO_ROW, FIFOTHR_AT, FILL_AT, FLOW_ROW,
-    FORM_AT, GATHERED_AT, H_AT, HEADS_AT, KIND_AT, LEFT_AT, LOUD_AT, MET_AT, MOTION_AT, MT_AT,
-    N_AT, OTHER_AT, PASS_AT, PHASE_ROW, PLAN_SIZE_AT, POLL_AT, PRETRK_AT, PROTECT_AT, R_AT,
-    RATE_AT, RECORD_SIZE, REGISTERS_ROW, RESULT_ROW, SC_AT, SIDE_AT, SITE_ROW, SK_AT, SLOT_AT,
-    SLOTS_AT, SPEC1_AT, SPEC2_AT, SPOT_COUNT_AT, SPOT_ROW, STAGE_AT, TAG_AT, TASK_LATE_AT,
-    TASK_OTHER_AT, TASK_ROW, TC_AT, TDR_AT, UNIT_AT, VERSION, VERSION_AT, WORK_AT, WRONG_AT,
+    DELETED_AT, DISK_SIZE_AT, DONE_AT, DOR_AT, DRIVE_NUMBER_AT, DTL_AT, DUE_AT, EFIFO_AT, EIS_AT,
+    EOT_AT, FIFO_ROW, FIFOTHR_AT, FILL_AT, FLOW_ROW, FORM_AT, GATHERED_AT, H_AT, HEADS_AT, KIND_AT,
+    LEFT_AT, LOUD_AT, MET_AT, MOTION_AT, MT_AT, N_AT, OTHER_AT, PASS_AT, PHASE_ROW, PLAN_SIZE_AT,
+    POLL_AT, PRETRK_AT, PROTECT_AT, R_AT, RATE_AT, RECORD_SIZE, REGISTERS_ROW, RESULT_ROW, SC_AT,
+    SIDE_AT, SITE_ROW, SK_AT, SLOT_AT, SLOTS_AT, SPEC1_AT, SPEC2_AT, SPOT_COUNT_AT, SPOT_ROW,
+    STAGE_AT, TAG_AT, TASK_LATE_AT, TASK_OTHER_AT, TASK_ROW, TC_AT, TDR_AT, UNIT_AT, VERSION,
+    VERSION_AT, WORK_AT, WRONG_AT,
 };
-use crate::rows::row_at;
-use chip::codes::{Entry, kind_numbered};
+use crate::rows::{drive_rows, row_at};
+use chip::codes::{Entry, Kind};
 use chip::fifo::Fifo;
 use drive::Drive;
-use fdc::record::{Bytes, Controller, Registers};
+use fdc::record::{Bytes, Controller, Phase, Registers};
 use image::layout::Geometry;
 use image::slot::Id;
 use sectors::order::{Plan, Transfer};
@@ -83,12 +82,10 @@ fn fifo_of(bytes: [u8; 16], flow: [u8; 16]) -> Fifo
 fn bytes_of(first: [u8; 16], second: [u8; 16]) -> Bytes
     ensures { result ≡ gathered_in first second }
 {
-    let command = [
-        first[0], first[1], first[2], first[3], first[4], first[5], first[6], first[7], first[8],
-    ];
-    let results = [
-        second[0], second[1], second[2], second[3], second[4], second[5], second[6],
-    ];
+    let mut command = [0; 9];
+    command.copy_from_slice(&first[..9]);
+    let mut results = [0; 7];
+    results.copy_from_slice(&second[..7]);
     Bytes {
         command,
         gathered: first[GATHERED_AT],
@@ -127,9 +124,8 @@ fn plan_in(row: [u8; 16]) -> Plan
 fn task_in(row: [u8; 16]) -> Task
     ensures { result ≡ task_from row }
 {
-    let pass = pass_numbered(row[PASS_AT]);
     let transfer = Transfer {
-        pass,
+        pass: pass_numbered(row[PASS_AT]),
         deleted: row[DELETED_AT] == 1,
         mt: row[MT_AT] == 1,
         sk: row[SK_AT] == 1,
@@ -153,7 +149,6 @@ fn task_in(row: [u8; 16]) -> Task
 fn spot_in(row: [u8; 16]) -> Spot
     ensures { result ≡ spot_in row }
 {
-    let done = wide(row[DONE_AT], row[DONE_AT + 1]);
     Spot {
         stage: row[STAGE_AT],
         form: row[FORM_AT],
@@ -164,91 +159,69 @@ fn spot_in(row: [u8; 16]) -> Spot
         bad: row[BAD_AT] == 1,
         broken: row[BROKEN_AT] == 1,
         other: row[OTHER_AT] == 1,
-        done,
+        done: u16::from_be_bytes([row[DONE_AT], row[DONE_AT + 1]]),
     }
 }
 
 fn flat_of(head: [u8; 16], site: [u8; 16], task: [u8; 16], spot: [u8; 16]) -> Flat
     ensures { result ≡ flat_of head site task spot }
 {
-    let kind = kind_numbered(head[KIND_AT]);
-    let entry = Entry {
-        kind,
-        bytes: head[DUE_AT],
-    };
-    let place = site_in(site);
-    let plan = plan_in(site);
-    let task = task_in(task);
-    let spot = spot_in(spot);
     Flat {
         tag: head[TAG_AT],
-        entry,
+        entry: Entry {
+            kind: Kind::from(head[KIND_AT]),
+            bytes: head[DUE_AT],
+        },
         unit: head[UNIT_AT],
         loud: head[LOUD_AT] == 1,
         work: head[WORK_AT],
-        site: place,
-        task,
-        plan,
-        spot,
+        site: site_in(site),
+        task: task_in(task),
+        plan: plan_in(site),
+        spot: spot_in(spot),
     }
 }
 
-fn flat_in(s: &[u8]) -> Flat
-    requires { record_size ≤ length s.now }
-    ensures { result ≡ flat_in s.now }
+fn flat_in(r: &[u8; RECORD_SIZE]) -> Flat
+    ensures { result ≡ flat_in r.now }
 {
-    let head = row_at(s, PHASE_ROW);
-    let site = row_at(s, SITE_ROW);
-    let task = row_at(s, TASK_ROW);
-    let spot = row_at(s, SPOT_ROW);
-    flat_of(head, site, task, spot)
+    flat_of(
+        row_at(r, PHASE_ROW),
+        row_at(r, SITE_ROW),
+        row_at(r, TASK_ROW),
+        row_at(r, SPOT_ROW),
+    )
 }
 
-fn fifo_in(s: &[u8]) -> Fifo
-    requires { record_size ≤ length s.now }
-    ensures { result ≡ fifo_in (row_at s.now fifo_row) (row_at s.now flow_row) }
+fn fifo_in(r: &[u8; RECORD_SIZE]) -> Fifo
+    ensures { result ≡ fifo_in (row_at r.now fifo_row) (row_at r.now flow_row) }
 {
-    let bytes = row_at(s, FIFO_ROW);
-    let flow = row_at(s, FLOW_ROW);
-    fifo_of(bytes, flow)
+    fifo_of(row_at(r, FIFO_ROW), row_at(r, FLOW_ROW))
 }
 
-fn drives_in(s: &[u8]) -> [Drive; 4]
-    requires { record_size ≤ length s.now }
-    ensures { result ≡ drives_in s.now }
+fn drives_in(r: &[u8; RECORD_SIZE]) -> [Drive; 4]
+    ensures { result ≡ drives_in r.now }
 {
-    let a = drive_in(row_at(s, DRIVE0_ROW));
-    let b = drive_in(row_at(s, DRIVE1_ROW));
-    let c = drive_in(row_at(s, DRIVE2_ROW));
-    let d = drive_in(row_at(s, DRIVE3_ROW));
-    [a, b, c, d]
+    let [a, b, c, d] = drive_rows(r);
+    [drive_in(a), drive_in(b), drive_in(c), drive_in(d)]
 }
 
-fn bytes_in(s: &[u8]) -> Bytes
-    requires { record_size ≤ length s.now }
-    ensures { result ≡ gathered_in (row_at s.now command_row) (row_at s.now result_row) }
+fn bytes_in(r: &[u8; RECORD_SIZE]) -> Bytes
+    ensures { result ≡ gathered_in (row_at r.now command_row) (row_at r.now result_row) }
 {
-    let command = row_at(s, COMMAND_ROW);
-    let results = row_at(s, RESULT_ROW);
-    bytes_of(command, results)
+    bytes_of(row_at(r, COMMAND_ROW), row_at(r, RESULT_ROW))
 }
 
 #[tactic(auto, unfolding(crate::specs::Bytes::record_in))]
-fn record_in(s: &[u8]) -> Controller
-    requires { record_size ≤ length s.now }
-    ensures { result ≡ record_in s.now }
+fn record_in(r: &[u8; RECORD_SIZE]) -> Controller
+    ensures { result ≡ record_in r.now }
 {
-    let registers = registers_in(row_at(s, REGISTERS_ROW));
-    let drives = drives_in(s);
-    let fifo = fifo_in(s);
-    let bytes = bytes_in(s);
-    let phase = phase_of(flat_in(s));
     Controller {
-        registers,
-        drives,
-        fifo,
-        bytes,
-        phase,
+        registers: registers_in(row_at(r, REGISTERS_ROW)),
+        drives: drives_in(r),
+        fifo: fifo_in(r),
+        bytes: bytes_in(r),
+        phase: Phase::from(flat_in(r)),
     }
 }
 
@@ -312,35 +285,30 @@ fn spot_ok(row: [u8; 16]) -> bool
         & (row[OTHER_AT] <= 1)
 }
 
-fn drives_ok(s: &[u8]) -> bool
-    requires { record_size ≤ length s.now }
-    ensures { result ≡ drives_ok s.now }
+fn drives_ok(r: &[u8; RECORD_SIZE]) -> bool
+    ensures { result ≡ drives_ok r.now }
 {
-    drive_ok(row_at(s, DRIVE0_ROW))
-        & drive_ok(row_at(s, DRIVE1_ROW))
-        & drive_ok(row_at(s, DRIVE2_ROW))
-        & drive_ok(row_at(s, DRIVE3_ROW))
+    let [a, b, c, d] = drive_rows(r);
+    drive_ok(a) & drive_ok(b) & drive_ok(c) & drive_ok(d)
 }
 
-fn flat_ok(s: &[u8]) -> bool
-    requires { record_size ≤ length s.now }
-    ensures { result ≡ flat_ok s.now }
+fn flat_ok(r: &[u8; RECORD_SIZE]) -> bool
+    ensures { result ≡ flat_ok r.now }
 {
-    head_ok(row_at(s, PHASE_ROW))
-        & site_ok(row_at(s, SITE_ROW))
-        & task_ok(row_at(s, TASK_ROW))
-        & spot_ok(row_at(s, SPOT_ROW))
+    head_ok(row_at(r, PHASE_ROW))
+        & site_ok(row_at(r, SITE_ROW))
+        & task_ok(row_at(r, TASK_ROW))
+        & spot_ok(row_at(r, SPOT_ROW))
 }
 
 #[tactic(auto, unfolding(crate::specs::Bytes::cases_ok))]
-fn cases_ok(s: &[u8]) -> bool
-    requires { record_size ≤ length s.now }
-    ensures { result ≡ cases_ok s.now }
+fn cases_ok(r: &[u8; RECORD_SIZE]) -> bool
+    ensures { result ≡ cases_ok r.now }
 {
-    registers_ok(row_at(s, REGISTERS_ROW))
-        & drives_ok(s)
-        & flow_ok(row_at(s, FLOW_ROW))
-        & flat_ok(s)
+    registers_ok(row_at(r, REGISTERS_ROW))
+        & drives_ok(r)
+        & flow_ok(row_at(r, FLOW_ROW))
+        & flat_ok(r)
 }
 
 // Whether bytes are a record, and of this layout.
@@ -348,11 +316,10 @@ fn cases_ok(s: &[u8]) -> bool
 pub fn is_record(s: &[u8]) -> bool
     ensures { result ≡ is_record s.now }
 {
-    let long = RECORD_SIZE <= s.len();
-    if long {
-        return (s[VERSION_AT] == VERSION) & cases_ok(s);
-    }
-    false
+    let Some(r) = s.first_chunk() else {
+        return false;
+    };
+    (r[VERSION_AT] == VERSION) & cases_ok(r)
 }
 
 // The record in enough bytes; in too few, one as after power-on. Whether they are a record is not looked at again.
@@ -360,21 +327,19 @@ pub fn is_record(s: &[u8]) -> bool
 pub fn load(s: &[u8]) -> Controller
     ensures { result ≡ loaded_of s.now }
 {
-    let enough = RECORD_SIZE <= s.len();
-    if enough {
-        return record_in(s);
-    }
-    Controller::new(0, 0)
+    let Some(r) = s.first_chunk() else {
+        return Controller::new(0, 0);
+    };
+    record_in(r)
 }
 
 // The FIFO alone; in too few bytes an empty one.
-#[tactic(auto, unfolding(crate::specs::Bytes::loaded_of, crate::specs::Bytes::record_in, fdc::specs::Record::fresh_of))]
+#[tactic(auto, unfolding(crate::specs::Bytes::loaded_of, fdc::specs::Record::fresh_of))]
 pub fn load_fifo(s: &[u8]) -> Fifo
     ensures { result ≡ (loaded_of s.now).fifo }
 {
-    let enough = RECORD_SIZE <= s.len();
-    if enough {
-        return fifo_in(s);
-    }
-    Fifo::empty()
+    let Some(r) = s.first_chunk() else {
+        return Fifo::empty();
+    };
+    fifo_in(r)
 }

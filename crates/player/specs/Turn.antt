@@ -1,12 +1,13 @@
 -- The call that a line of a log says, on the record and the two images (01 Calls: only the tick is lent the images).
 -- Assumes nothing.
-use Rattle.std.specs.Prelude.{ℕ, zero, suc, List}
+use Rattle.std.specs.Prelude.{ℕ, zero, suc, List, Result, Ok, Err}
 use Rattle.fdc.specs.Answer.{answer_of}
 use Rattle.fdc.specs.Calls.{power_on, read_port, write_port, dma_read, dma_write, note_change}
 use Rattle.fdc.specs.Ticks.{tick_of, image_after}
 use Rattle.fdc.specs.declared.answer.Answer.{Answer}
 use Rattle.fdc.specs.declared.answer.Reply.TheVariants.{Done}
 use Rattle.fdc.specs.declared.record.Controller.{Controller}
+use Rattle.script.specs.declared.line.Expected.{Expected}
 use Rattle.script.specs.declared.line.Line.{Line}
 use Rattle.script.specs.declared.line.Line.TheVariants.{
   Nothing,
@@ -18,7 +19,6 @@ use Rattle.script.specs.declared.line.Line.TheVariants.{
   Give,
   Change,
   Ticks,
-  Malformed,
 }
 
 -- an answer, with the record in it, and the images beside it
@@ -50,14 +50,14 @@ abbrev pub turn_ticks : ℕ → List ℕ → List ℕ → Controller → Turn
 turn_ticks n a b c = turn_ticks_from n (still (answer_of Done c) a b)
 
 -- house: the call of each line; one that says none leaves all as it is
-unfoldable pub called_turn : Line → List ℕ → List ℕ → Controller → Turn
-called_turn Nothing a b c = still (answer_of Done c) a b
-called_turn (Power head0 head1) a b c = still (power_on head0 head1) a b
-called_turn (Read offset) a b c = still (read_port offset c) a b
-called_turn (Recorded offset byte) a b c = still (read_port offset c) a b
-called_turn (Write offset byte) a b c = still (write_port offset byte c) a b
-called_turn (Take tc) a b c = still (dma_read tc c) a b
-called_turn (Give byte tc) a b c = still (dma_write byte tc c) a b
-called_turn (Change drive) a b c = still (note_change drive c) a b
-called_turn (Ticks n) a b c = turn_ticks n a b c
-called_turn (Malformed expected) a b c = still (answer_of Done c) a b
+unfoldable pub called_turn : Result Line Expected → List ℕ → List ℕ → Controller → Turn
+called_turn (Ok Nothing) a b c = still (answer_of Done c) a b
+called_turn (Ok (Power head0 head1)) a b c = still (power_on head0 head1) a b
+called_turn (Ok (Read offset)) a b c = still (read_port offset c) a b
+called_turn (Ok (Recorded offset byte)) a b c = still (read_port offset c) a b
+called_turn (Ok (Write offset byte)) a b c = still (write_port offset byte c) a b
+called_turn (Ok (Take tc)) a b c = still (dma_read tc c) a b
+called_turn (Ok (Give byte tc)) a b c = still (dma_write byte tc c) a b
+called_turn (Ok (Change drive)) a b c = still (note_change drive c) a b
+called_turn (Ok (Ticks n)) a b c = turn_ticks n a b c
+called_turn (Err expected) a b c = still (answer_of Done c) a b

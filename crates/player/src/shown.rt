@@ -2,17 +2,13 @@
 ghost use Rattle.std.specs.Prelude.{◌≡◌};
 ghost use Rattle.player.specs.Shown.{flag_text, text_of, answer_text, mark_text, refused_in, differs_from};
 
-use chip::refusal::number;
 use fdc::answer::Reply;
 use log_lines::hex::letter;
 
 fn flag_text(on: bool) -> u8
     ensures { result ≡ flag_text on }
 {
-    if on {
-        return b'1';
-    }
-    b'0'
+    b'0' + u8::from(on)
 }
 
 fn text_of(first: u8, second: u8, int: bool, drq: bool) -> [u8; 7]
@@ -29,7 +25,8 @@ fn text_of(first: u8, second: u8, int: bool, drq: bool) -> [u8; 7]
     ]
 }
 
-// The value, INT and DRQ.
+// The value, INT and DRQ. Bytes and no Display, and three parameters: `answer_text` says which seven they are, for any
+// reply with any lines.
 #[tactic(auto, unfolding(crate::specs::Shown::answer_text))]
 pub fn answer_text(reply: Reply, int: bool, drq: bool) -> [u8; 7]
     ensures { result ≡ answer_text reply int drq }
@@ -37,11 +34,11 @@ pub fn answer_text(reply: Reply, int: bool, drq: bool) -> [u8; 7]
     match reply {
         Reply::Done => text_of(b'-', b'-', int, drq),
         Reply::Byte(byte) => text_of(letter(byte / 16), letter(byte), int, drq),
-        Reply::Refused(refusal) => text_of(b'R', letter(number(refusal)), int, drq),
+        Reply::Refused(refusal) => text_of(b'R', letter(u8::from(refusal)), int, drq),
     }
 }
 
-// What stands behind an answer that is not the one recorded.
+// What stands behind an answer that is not the one recorded. Bytes and no Display: `mark_text` says which six they are.
 pub fn mark_text(recorded: u8) -> [u8; 6]
     ensures { result ≡ mark_text recorded }
 {
@@ -58,20 +55,12 @@ pub fn mark_text(recorded: u8) -> [u8; 6]
 pub fn refused(reply: Reply) -> bool
     ensures { result ≡ refused_in reply }
 {
-    match reply {
-        Reply::Done => false,
-        Reply::Byte(_) => false,
-        Reply::Refused(_) => true,
-    }
+    matches!(reply, Reply::Refused(_))
 }
 
 // A reply that is no byte differs from every byte.
 pub fn differs(reply: Reply, recorded: u8) -> bool
     ensures { result ≡ differs_from recorded reply }
 {
-    match reply {
-        Reply::Done => true,
-        Reply::Byte(byte) => !(byte == recorded),
-        Reply::Refused(_) => true,
-    }
+    !matches!(reply, Reply::Byte(byte) if byte == recorded)
 }

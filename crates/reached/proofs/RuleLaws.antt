@@ -2,6 +2,7 @@
 -- Assumes nothing.
 use Prim.Native.Nat.{ℕ, zero, suc, ◌+◌, ◌-◌, ◌/◌, ◌%◌, ◌≤◌, ◌<◌}
 use native.Mathlib.Omega.{arith}
+use Rattle.std.specs.Prelude.{Option, None, Some}
 use mathlib.Core.Bool.{Bool, true, false, not, ◌&&◌, cond, true≢false, false≢true}
 use mathlib.Core.List.{List, [], ◌∷◌}
 use mathlib.Core.Logic.{◌⊎◌, inl, inr}
@@ -34,7 +35,7 @@ use Rattle.engine.proofs.KeptLaws.{begin_kept, go_on_kept}
 use Rattle.fdc.specs.declared.answer.Reply.{Reply}
 use Rattle.fdc.specs.declared.answer.Reply.TheVariants.{Done, Byte, Refused}
 use Rattle.fdc.specs.declared.ports.Port.{Port}
-use Rattle.fdc.specs.declared.ports.Port.TheVariants.{None, Dor, Tdr, Status, Data, Input}
+use Rattle.fdc.specs.declared.ports.Port.TheVariants.{Dor, Tdr, Status, Data, Input}
 use Rattle.fdc.specs.declared.record.Bytes.{Bytes}
 use Rattle.fdc.specs.declared.record.Controller.{Controller}
 use Rattle.fdc.specs.declared.record.Phase.{Phase}
@@ -56,13 +57,13 @@ use Rattle.reached.specs.Runs.{Call, powers, reads, writes, takes, gives, ticks,
 use Rattle.reached.proofs.Rules.{engaged, Restarts, by_power, by_dor, by_dsr, DriveRule, kept, noted, powered, reset, restarted, released, sensed, set_off, ticked, SameSettings, by_read, by_cycle, by_write, by_dma, Collects, first, further, Told, Orders, moving, formatting, identifying, Acts, begins, goes_on_lem, bytes_then, phase_then, Rest, refuses, shows, steps, flags, sets, anew, took_byte, gave_byte, gathers, says, idles, specifies, configures, senses, starts, acts, Ruled}
 
 -- offset 2 is DOR, 4 DSR, 5 the data register
-abbrev AtPort : Port → ℕ → Type 0
+abbrev AtPort : Option Port → ℕ → Type 0
 AtPort None offset = offset ≡ 5 → ⊥
-AtPort Dor offset = offset ≡ 2
-AtPort Tdr offset = offset ≡ 5 → ⊥
-AtPort Status offset = offset ≡ 4
-AtPort Data offset = offset ≡ 5
-AtPort Input offset = offset ≡ 5 → ⊥
+AtPort (Some Dor) offset = offset ≡ 2
+AtPort (Some Tdr) offset = offset ≡ 5 → ⊥
+AtPort (Some Status) offset = offset ≡ 4
+AtPort (Some Data) offset = offset ≡ 5
+AtPort (Some Input) offset = offset ≡ 5 → ⊥
 
 port_at : (offset : ℕ) → AtPort (port_of offset) offset
 unfolding port_of
@@ -70,7 +71,7 @@ port_at offset = go (eqb offset 2) refl (eqb offset 3) refl (eqb offset 4) refl 
   where
     go : (a : Bool) → eqb offset 2 ≡ a → (b : Bool) → eqb offset 3 ≡ b → (c : Bool) → eqb offset 4 ≡ c
         → (d : Bool) → eqb offset 5 ≡ d → (e : Bool) → eqb offset 7 ≡ e
-        → AtPort (cond a Dor (cond b Tdr (cond c Status (cond d Data (cond e Input None))))) offset
+        → AtPort (cond a (Some Dor) (cond b (Some Tdr) (cond c (Some Status) (cond d (Some Data) (cond e (Some Input) None))))) offset
     go true p b q c r d s e t = eqb-true offset 2 p
     go false p true q c r d s e t = λ x. omega (arith, eqb-true offset 3 q)
     go false p false q true r d s e t = eqb-true offset 4 r
@@ -450,17 +451,17 @@ give_rule byte tc c =
     (λ _. same (gives byte tc) c _ (refuses _)))
 
 -- the registers
-read_rule : (offset : ℕ) (p : Port) (c : Controller) → AtPort p offset → Ruled (reads offset) c (read_reg p c)
+read_rule : (offset : ℕ) (p : Option Port) (c : Controller) → AtPort p offset → Ruled (reads offset) c (read_reg p c)
 unfolding read_reg read_fifo
 read_rule offset None c o = same (reads offset) c _ (refuses _)
-read_rule offset Dor c o = same (reads offset) c _ (shows offset _ refl (λ x. omega arith))
-read_rule offset Tdr c o = same (reads offset) c _ (shows offset _ refl o)
-read_rule offset Status c o = same (reads offset) c _ (shows offset _ refl (λ x. omega arith))
-read_rule offset Data c o =
+read_rule offset (Some Dor) c o = same (reads offset) c _ (shows offset _ refl (λ x. omega arith))
+read_rule offset (Some Tdr) c o = same (reads offset) c _ (shows offset _ refl o)
+read_rule offset (Some Status) c o = same (reads offset) c _ (shows offset _ refl (λ x. omega arith))
+read_rule offset (Some Data) c o =
     rw o
     (by_test (eqb (msr_of c / 64) 3) (Ruled (reads 5) c) _ _ (λ e. read_in_lem c e c.phase refl)
     (λ _. same (reads 5) c _ (refuses _)))
-read_rule offset Input c o = same (reads offset) c _ (shows offset _ refl o)
+read_rule offset (Some Input) c o = same (reads offset) c _ (shows offset _ refl o)
 
 -- a release, by POLL
 releasing : (P : Controller → Type 0) (e : Controller) → P e → P (with_drives (report_all e.drives) e) → P (released_of e)
@@ -525,17 +526,17 @@ module _ (offset byte : ℕ) (c : Controller) where
       }))
       (λ _. wrote_rate (λ x. omega arith))
 
-  write_rule : (p : Port) → AtPort p offset → Ruled (writes offset byte) c (write_reg p byte c)
+  write_rule : (p : Option Port) → AtPort p offset → Ruled (writes offset byte) c (write_reg p byte c)
   unfolding write_reg write_fifo with_tdr
   write_rule None o = same (writes offset byte) c _ (refuses _)
-  write_rule Dor o = wrote_dor_lem o
-  write_rule Tdr o = set_three _ o (record { held = λ h. h; spec1 = refl; efifo = refl; fifothr = refl })
-  write_rule Status o = wrote_dsr_lem o
-  write_rule Data o =
+  write_rule (Some Dor) o = wrote_dor_lem o
+  write_rule (Some Tdr) o = set_three _ o (record { held = λ h. h; spec1 = refl; efifo = refl; fifothr = refl })
+  write_rule (Some Status) o = wrote_dsr_lem o
+  write_rule (Some Data) o =
       rw o
       (by_test (eqb (msr_of c / 64) 2) (Ruled (writes 5 byte) c) _ _ (λ e. offered byte c e c.phase refl)
       (λ _. same (writes 5 byte) c _ (refuses _)))
-  write_rule Input o = wrote_rate o
+  write_rule (Some Input) o = wrote_rate o
 
 -- the tick
 module _ (a b : List ℕ) (c : Controller) where

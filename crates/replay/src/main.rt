@@ -7,12 +7,13 @@
 #![tactic(auto)]
 
 mod drives;
+mod input;
 mod output;
 mod run;
 
-use drives::{image_in, put_back, twice};
-use files::fault::{output_fault, program_fault, system_fault};
+use drives::{image_in, twice};
 use files::image::{Image, image_buffer};
+use files::program::Program;
 use files::word::argument_count;
 use output::Output;
 use run::play_lines;
@@ -20,53 +21,50 @@ use std::env::Env;
 use std::fs::Files;
 
 // The log from standard input, played to standard output.
-fn play_input(rt: &(impl Input + Print), err: &impl Print, a: &mut [u8], b: &mut [u8]) {
-    let mut out = Output::new(rt);
+fn play_input<R: Input + Print, E: Print>(program: &Program<'_, R, E>, a: &mut [u8], b: &mut [u8]) {
+    let mut out = Output::new(program.rt);
     out.text(b"line value int drq\n");
-    let mut buf = [0u8; 4096];
-    if let Err(why) = play_lines(&mut rt.reader(), &mut out, err, &mut buf, a, b) {
-        system_fault(err, b"replay", b"standard input", why);
+    if let Err(why) = play_lines(program.rt.reader(), &mut out, program.err, a, b) {
+        program.system_fault(b"standard input", why);
     }
-    if !out.whole() {
-        output_fault(err, b"replay");
+    if out.written().is_err() {
+        program.output_fault();
     }
 }
 
-fn play<R: Files + Env + Input + Print>(
-    rt: &R,
-    err: &impl Print,
+// An image stands beside its bytes, and they are two slices: the buffers are main's, made once, and `called` of
+// `player` is lent both as 01's tick is.
+fn play<R: Files + Env + Input + Print, E: Print>(
+    program: &Program<'_, R, E>,
     first: Image<R::File>,
     second: Image<R::File>,
     a: &mut [u8],
     b: &mut [u8],
 ) {
-    play_input(rt, err, a, b);
-    put_back(rt, err, 1, first.file, a);
-    put_back(rt, err, 2, second.file, b);
+    play_input(program, a, b);
+    program.kept(1, first.file, a);
+    program.kept(2, second.file, b);
 }
 
 // Nothing is played where an image cannot be had.
-fn play_files<R: Files + Env + Input + Print>(
-    rt: &R,
-    err: &impl Print,
+fn play_files<R: Files + Env + Input + Print, E: Print>(
+    program: &Program<'_, R, E>,
     a: &mut [u8],
     b: &mut [u8],
 ) {
-    if 3 < argument_count(rt) {
-        program_fault(err, b"replay", b"at most two images");
+    if 3 < argument_count(program.rt) {
+        program.fault(b"at most two images");
         return;
     }
-    if twice(rt) {
-        program_fault(err, b"replay", b"the same image is named twice");
+    if twice(program.rt) {
+        program.fault(b"the same image is named twice");
         return;
     }
-    let first = image_in(rt, err, 1, a);
-    let second = image_in(rt, err, 2, b);
-    if first.good & second.good {
+    if let (Some(first), Some(second)) = (image_in(program, 1, a), image_in(program, 2, b)) {
         // The images are as long as their files.
         let n = first.length;
         let m = second.length;
-        play(rt, err, first, second, &mut a[..n], &mut b[..m]);
+        play(program, first, second, &mut a[..n], &mut b[..m]);
     }
 }
 
@@ -74,5 +72,10 @@ fn main(rt: HostRuntime) {
     let err = rt.stderr();
     let mut a = image_buffer();
     let mut b = image_buffer();
-    play_files(&rt, &err, &mut a, &mut b);
+    let program = Program {
+        rt: &rt,
+        err: &err,
+        name: b"replay",
+    };
+    play_files(&program, &mut a, &mut b);
 }

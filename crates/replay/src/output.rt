@@ -1,6 +1,6 @@
 // Standard output. Where it does not take something, that is kept, and nothing more is written there: the log goes on,
 // since its calls change the images.
-use std::io;
+use std::{fmt, io};
 
 #[derive(Drop)]
 pub struct Output<'a, P> {
@@ -17,19 +17,15 @@ impl<'a, P: Print> Output<'a, P> {
     }
 
     pub fn text(&mut self, bytes: &[u8]) {
-        if self.written.is_ok() {
-            self.written = self.to.write_all(bytes);
-        }
+        self.written = self.written.and_then(|()| self.to.write_all(bytes));
     }
 
-    pub fn number(&mut self, n: u64) {
-        if self.written.is_ok() {
-            self.written = self.to.print(n);
-        }
+    pub fn show(&mut self, shown: impl fmt::Display + Drop) {
+        self.written = self.written.and_then(|()| self.to.print(shown));
     }
 
     // Whether all of it was taken.
-    pub fn whole(&self) -> bool {
-        self.written.is_ok()
+    pub fn written(self) -> io::Result<()> {
+        self.written
     }
 }

@@ -1,5 +1,6 @@
 -- Write commands that are cut (specs/CutExamples): the histories by computation, the premises by tests that compute.
 -- Assumes nothing.
+use Rattle.std.specs.Prelude.{Some}
 use Prim.Native.Nat.{ℕ, zero, suc}
 use mathlib.Core.Bool.{Bool, true, false}
 use mathlib.Core.List.{List}
@@ -9,7 +10,6 @@ use Rattle.image.specs.Layout.{size_of, track_length, length_of}
 use Rattle.fdc.specs.declared.record.Controller.{Controller}
 use Rattle.reached.specs.Runs.{Call, answer_to}
 use borrow.Author.Rules.{rules}
-use Rattle.image.specs.declared.disk.Disk.TheVariants.{Present}
 use Rattle.image.specs.Examples.{disk, sample}
 use Rattle.runs.specs.CutExamples.{
   asked,
@@ -41,7 +41,7 @@ served_alone dma host zero c img = tt
 served_alone true host (suc n) c img = λ w. (tt, λ w'. (refl, served_alone true (rest_of (answer_to (offer true host) c).reply host) n _ _))
 served_alone false host (suc n) c img = λ w. (tt, λ w'. (refl, served_alone false (rest_of (answer_to (offer false host) c).reply host) n _ _))
 
-mounts : disk_in (sample 2) ≡ Present (disk 1 1 2 1)
+mounts : disk_in (sample 2) ≡ Some (disk 1 1 2 1)
 unfolding header_in geometry_in disk_in size_of track_length length_of
 mounts = refl
 

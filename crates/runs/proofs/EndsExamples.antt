@@ -2,6 +2,7 @@
 -- Write, a Read ID, a Format and a Sense Drive were accepted, or a Seek and a Recalibrate are complete but for their
 -- last byte; an image; and lists of calls, of which some are run.
 -- Assumes nothing.
+use Rattle.std.specs.Prelude.{None, Some}
 use Prim.Native.Nat.{ℕ, zero, suc, ◌%◌}
 use native.Mathlib.Omega.{arith}
 use mathlib.Core.Bool.{Bool, true, false, ◌&&◌}
@@ -14,7 +15,6 @@ use Rattle.chip.specs.Commands.{entry_of}
 use Rattle.fdc.specs.Commands.{step_time}
 use Rattle.reached.specs.Runs.{run_calls}
 use Rattle.fdc.specs.Ticks.{seen_of}
-use Rattle.image.specs.declared.disk.Disk.TheVariants.{Absent, Present}
 use Rattle.image.specs.Disk.{header_of}
 use Rattle.image.specs.Examples.{disk, sector}
 use Rattle.image.proofs.TestLaws.{both}
@@ -122,14 +122,14 @@ moves pass =
 
 -- what the premises ask, by computing
 pub record Met : Type 0 where
-  pub disk_there : disk_in small ≡ Present (disk 1 1 1 1)
+  pub disk_there : disk_in small ≡ Some (disk 1 1 1 1)
   pub bound : bound_of (disk 1 1 1 1) ≡ 1312
   pub read_accepted : (given read_bytes).phase ≡ Starting (ordered (moves Read))
   pub write_accepted : (given write_bytes).phase ≡ Starting (ordered (moves Write))
   pub id_accepted : (given id_bytes).phase ≡ Starting (ordered Identify)
   pub format_accepted : (given format_bytes).phase ≡ Starting (ordered (Format (record { n = 1; sc = 1; fill = 0xE5 })))
   pub sense_accepted : (given sense_bytes).phase ≡ Sensing 0
-  pub empty : seen_of (given read_bytes).registers.dor 0 [] ≡ Absent
+  pub empty : seen_of (given read_bytes).registers.dor 0 [] ≡ None
   -- not served, the Read ends with ST1 10 at its 259th tick, and not before (02 2026-02)
   pub read_on_lem : at_work (run_calls (unserved 258) (given read_bytes)).phase ≡ true
   pub read_over : (run_calls (unserved 259) (given read_bytes)).bytes.results

@@ -1,5 +1,7 @@
 -- The runs of specs/FormatRuns: the premises by tests that compute, the ends by the theorems.
 -- Assumes nothing.
+use Rattle.std.specs.Prelude.{None, Some}
+use Rattle.image.specs.Lent.{put_at}
 use Prim.Native.Nat.{ℕ, ◌≤◌}
 use native.Mathlib.Omega.{arith}
 use mathlib.Core.Bool.{Bool, true, false, cond, ◌&&◌}
@@ -8,8 +10,7 @@ use mathlib.Core.Logic.{◌⊎◌, inr}
 use mathlib.Core.Path.{◌≡◌, refl, ap, ◌∙◌}
 use lib.Dec.{eqb}
 use lib.ListN.{length, take, length-append}
-use Rattle.image.specs.declared.lent.Effect.{Effect}
-use Rattle.image.specs.declared.lent.Effect.TheVariants.{Nothing, Store}
+use Rattle.image.specs.Lent.{Effect}
 use Rattle.image.specs.Examples.{disk}
 use Rattle.image.specs.Layout.{size_of}
 use Rattle.image.proofs.TestLaws.{by_test}
@@ -49,8 +50,8 @@ module _ (n : ℕ) (h : History) (more : n ≤ length h.host) where
       by_test (eqb at mark) (λ (h' : History). n ≤ length h'.host) _ _ (λ _. more) (λ _. more)
 
   still_noted : (effect : Effect) → n ≤ length (noted_store effect h).host
-  still_noted Nothing = more
-  still_noted (Store at byte) = still_stored at byte h.begun
+  still_noted None = more
+  still_noted (Some put) = still_stored put.at put.byte h.begun
 
   one_more_lem : (test : Bool) (byte : ℕ) (tc : Bool) → n ≤ length (cond test (handed byte tc h) h).host
   one_more_lem test byte tc =

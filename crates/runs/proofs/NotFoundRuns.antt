@@ -1,10 +1,10 @@
 -- The run of specs/NotFoundRuns: the premises by computing, the end by the theorem.
 -- Assumes nothing.
+use Rattle.std.specs.Prelude.{Some}
 use Prim.Native.Nat.{ℕ, zero, suc, ◌≤◌}
 use native.Mathlib.Omega.{arith}
 use mathlib.Core.Bool.{true}
 use mathlib.Core.Path.{◌≡◌, refl, sym, ap, ◌∙◌}
-use Rattle.image.specs.declared.disk.Disk.TheVariants.{Present}
 use Rattle.image.specs.declared.slot.Id.{Id}
 use Rattle.image.specs.Disk.{disk_in}
 use Rattle.image.specs.Examples.{disk}
@@ -38,7 +38,7 @@ head : head_of absent.order (asked_by absent) ≡ 0
 unfolding all_open
 head = refl
 
-mounted : disk_in strange ≡ Present (disk 1 1 2 1)
+mounted : disk_in strange ≡ Some (disk 1 1 2 1)
 unfolding all_open
 mounted = refl
 

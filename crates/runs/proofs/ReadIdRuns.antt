@@ -1,12 +1,12 @@
 -- The runs of specs/ReadIdRuns: the premises by computing, the ends by the theorems.
 -- Assumes nothing.
+use Rattle.std.specs.Prelude.{Some}
 use Prim.Native.Nat.{ℕ, zero, suc, ◌≤◌, ◌<◌}
 use native.Mathlib.Omega.{arith}
 use mathlib.Core.Bool.{Bool, true, false}
 use mathlib.Core.List.{List}
 use mathlib.Core.Path.{◌≡◌, refl}
 use lib.ListN.{set}
-use Rattle.image.specs.declared.disk.Disk.TheVariants.{Present}
 use Rattle.image.specs.declared.slot.Id.{Id}
 use Rattle.image.specs.Disk.{disk_in}
 use Rattle.image.specs.Examples.{disk}
@@ -57,7 +57,7 @@ module _ (img : List ℕ) where
   unfolding bound_of size_of
   enough = rw (handing_ticks 1 (idle 1980) (asked_by x) img) (omega arith)
 
-  read_id_run : (normal : Bool) (st1 : ℕ) (id : Id) → disk_in img ≡ Present (disk 1 1 2 1)
+  read_id_run : (normal : Bool) (st1 : ℕ) (id : Id) → disk_in img ≡ Some (disk 1 1 2 1)
       → EndsWith (Gives x.order normal st1 id) (calls_of x) (asked_by x) → ReadIdRun x normal st1 id
   read_id_run normal st1 id mounted ends =
       record {
@@ -70,8 +70,8 @@ module _ (img : List ℕ) where
         ends = ends;
       }
 
-mounted : (disk_in (double 0) ≡ Present (disk 1 1 2 1))
-    × (disk_in (set (double 0) 274 0) ≡ Present (disk 1 1 2 1))
+mounted : (disk_in (double 0) ≡ Some (disk 1 1 2 1))
+    × (disk_in (set (double 0) 274 0) ≡ Some (disk 1 1 2 1))
 unfolding all_open
 mounted = (refl, refl)
 

@@ -1,5 +1,6 @@
 -- The runs of specs/RowRuns, each by its row of the result table: the premises are met by computing.
 -- Assumes nothing.
+use Rattle.std.specs.Prelude.{Some}
 use Prim.Native.Nat.{ℕ}
 use native.Mathlib.Omega.{arith}
 use mathlib.Core.Bool.{Bool, true, false, true≢false, false≢true}
@@ -8,7 +9,6 @@ use mathlib.Core.Logic.{inl, inr}
 use mathlib.Core.Path.{◌≡◌, refl, ap, ◌∙◌}
 use lib.ListN.{set}
 use Rattle.reached.specs.Runs.{Call, reads, writes, takes, gives, ticks}
-use Rattle.image.specs.declared.disk.Disk.TheVariants.{Present}
 use Rattle.image.specs.declared.slot.Id.{Id}
 use Rattle.image.specs.Examples.{disk}
 use Rattle.image.specs.Layout.{size_of}
@@ -62,7 +62,7 @@ abbrev sight : Work → Bool → ℕ → Sight
 sight work tc count = record { phase = Working work; dor = 0x1C; capacity = 1; tc = tc; count = count }
 
 module _ (img : List ℕ) (calls : List Call) (bytes : byte_tests calls ≡ true) (work : Work) (tc : Bool) (count : ℕ)
-    (seen : seen_of 0x1C (drive_of work) (pick_of (drive_of work) img []) ≡ Present (site_of work).disk)
+    (seen : seen_of 0x1C (drive_of work) (pick_of (drive_of work) img []) ≡ Some (site_of work).disk)
     (e : sight_of (box 0 calls) ≡ sight work tc count) where
   during : During (box 0 calls) work img []
   during =
@@ -125,7 +125,7 @@ unfolding all_open
 short_sight = refl
 
 -- the disk that each of them sees
-marks_seen : (mark : ℕ) → seen_of 0x1C 0 (pick_of 0 (marks mark 1) []) ≡ Present (disk 1 1 2 1)
+marks_seen : (mark : ℕ) → seen_of 0x1C 0 (pick_of 0 (marks mark 1) []) ≡ Some (disk 1 1 2 1)
 unfolding all_open
 marks_seen mark = refl
 

@@ -1,6 +1,7 @@
 -- The runs of specs/ShortRuns: one equation for each save, tests that compute for the pulled disks, and what the
 -- theorems say of them.
 -- Assumes nothing.
+use Rattle.std.specs.Prelude.{Some}
 use Prim.Native.Nat.{ℕ, ◌*◌, ◌<◌}
 use native.Mathlib.Omega.{arith}
 use mathlib.Core.Bool.{Bool, true, false}
@@ -10,7 +11,6 @@ use mathlib.Core.Path.{◌≡◌, refl, sym, ap, ◌∙◌, subst}
 use lib.Dec.{ltb}
 use lib.ListN.{length, get_or}
 use borrow.Author.Tests.{ltb-true}
-use Rattle.image.specs.declared.disk.Disk.TheVariants.{Present}
 use Rattle.image.specs.declared.slot.Id.{Id}
 use Rattle.image.specs.Disk.{disk_in}
 use Rattle.sectors.specs.declared.order.Transfer.{Transfer}
@@ -110,7 +110,7 @@ large_goes = refl
 
 module _ (x : WholeGiven) (more : List Call) (o : WholeOutcome) (left : List ℕ) (transfer : Transfer) (id : Id)
     (bytes : byte_tests (asking x) ≡ true) (accepted : Writes (asked_by x) x.order transfer id)
-    (mounted : disk_in x.img ≡ Present x.disk) (drive : x.order.drive < 2)
+    (mounted : disk_in x.img ≡ Some x.disk) (drive : x.order.drive < 2)
     (e : saved_in x more ≡ saved o left) where
   whole : whole_of (goes_on x.order.drive more (seen_in x)) ≡ sums o false
   whole = ap (λ (s : Saved). s.whole) e

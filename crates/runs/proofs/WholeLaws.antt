@@ -1,13 +1,13 @@
 -- Closed runs (specs/Whole) in one pass over the calls: `goes` runs the machine once and keeps all that the statements
 -- ask for; its laws say that it is what they say. So a run is one equation that computes.
 -- Assumes nothing.
+use Rattle.std.specs.Prelude.{Some}
 use Prim.Native.Nat.{ℕ, zero, suc, ◌<◌}
 use native.Mathlib.Omega.{arith}
 use mathlib.Core.Bool.{Bool, true, false, ◌&&◌, not, cond}
 use mathlib.Core.List.{List, [], ◌∷◌, ◌++◌}
 use mathlib.Core.Path.{◌≡◌, refl, sym, ap, ap₂, ◌∙◌, subst}
 use lib.Dec.{eqb}
-use Rattle.image.specs.declared.disk.Disk.TheVariants.{Present}
 use Rattle.image.specs.declared.slot.Id.{Id}
 use Rattle.image.specs.Disk.{disk_in}
 use Rattle.image.specs.Lent.{stored_as}
@@ -311,7 +311,7 @@ module _ (x : WholeGiven) where
   served_in e = (goes_off x.order.drive x.does (asked_by x) x.img true true no_history untaken e).1
 
   pub format_run : (plan : Plan) (result host left : List ℕ) → byte_tests (asking x) ≡ true
-      → (asked_by x).phase ≡ Starting x.order → x.order.job ≡ Format plan → disk_in x.img ≡ Present x.disk
+      → (asked_by x).phase ≡ Starting x.order → x.order.job ≡ Format plan → disk_in x.img ≡ Some x.disk
       → x.order.drive < 2 → formed_in x ≡ forms result host left → FormatRun x result host left
   format_run plan result host left bytes accepted formats mounted p e =
       record {
@@ -330,7 +330,7 @@ module _ (x : WholeGiven) where
 
 module _ (x : WholeGiven) (o : WholeOutcome) (transfer : Transfer) (id : Id) where
   pub write_run : (off : Bool) → byte_tests (asking x) ≡ true → Writes (asked_by x) x.order transfer id
-      → disk_in x.img ≡ Present x.disk → x.order.drive < 2 → wrote_in x ≡ sums o off → WriteRun x o
+      → disk_in x.img ≡ Some x.disk → x.order.drive < 2 → wrote_in x ≡ sums o off → WriteRun x o
   write_run off bytes accepted mounted p e =
       record {
         real = real_asked x bytes;
@@ -344,7 +344,7 @@ module _ (x : WholeGiven) (o : WholeOutcome) (transfer : Transfer) (id : Id) whe
       }
 
   pub read_run : (off : Bool) → byte_tests (asking x) ≡ true → Reads (asked_by x) x.order transfer id
-      → disk_in x.img ≡ Present x.disk → x.order.drive < 2 → took_in x ≡ sums o off → ReadRun x o
+      → disk_in x.img ≡ Some x.disk → x.order.drive < 2 → took_in x ≡ sums o off → ReadRun x o
   read_run off bytes accepted mounted p e =
       let took = goes_took x.order.drive x.does (asked_by x) x.img true true no_history untaken in
       record {

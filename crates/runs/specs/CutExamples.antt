@@ -2,8 +2,7 @@
 -- computes. The host serves by DMA or by the FIFO's port; Configure has put the FIFO off. The proofs are in
 -- proofs/CutExamples.antt.
 -- Assumes nothing.
-use Rattle.std.specs.Prelude.{ℕ, zero, suc, Bool, true, false, cond, List, [], ◌∷◌, ◌++◌, ◌≡◌, eqb, length, get_or, take, drop, replicate}
-use Rattle.image.specs.declared.disk.Disk.TheVariants.{Present}
+use Rattle.std.specs.Prelude.{ℕ, zero, suc, Bool, true, false, cond, List, [], ◌∷◌, ◌++◌, ◌≡◌, eqb, length, get_or, take, drop, replicate, Some}
 use Rattle.image.specs.declared.slot.Id.{Id}
 use Rattle.image.specs.Disk.{disk_in}
 use Rattle.image.specs.Examples.{disk, sample}
@@ -71,7 +70,7 @@ full = down 256 ++ down 256
 pub record CutExample (dma : Bool) (host : List ℕ) (n : ℕ) (h : History) : Type 0 where
   pub real : Real (writer dma)
   pub accepted : Writes (writer dma) ordered written sector_one
-  pub mounted : disk_in (sample 2) ≡ Present (disk 1 1 2 1)
+  pub mounted : disk_in (sample 2) ≡ Some (disk 1 1 2 1)
   pub its : Its (cut_calls dma host n) (writer dma)
   pub alone : Alone 0 (sample 2) (cut_calls dma host n) (writer dma)
   pub history : history_of (cut_calls dma host n) (writer dma) no_history ≡ h

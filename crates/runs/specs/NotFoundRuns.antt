@@ -1,8 +1,7 @@
 -- A read of a sector that is not on its track, which has one ID with C FF and one with C 0, meets all premises of
 -- `NotFound` (01 Search). And so it ends, with 04 and 12.
 -- Assumes nothing.
-use Rattle.std.specs.Prelude.{ℕ, ◌≤◌, true, false, List, [], ◌∷◌, ◌≡◌, set}
-use Rattle.image.specs.declared.disk.Disk.TheVariants.{Present}
+use Rattle.std.specs.Prelude.{ℕ, ◌≤◌, true, false, List, [], ◌∷◌, ◌≡◌, set, Some}
 use Rattle.image.specs.declared.slot.Id.{Id}
 use Rattle.image.specs.Disk.{disk_in}
 use Rattle.image.specs.Examples.{disk}
@@ -47,7 +46,7 @@ absent =
 pub record NotFoundRun : Type 0 where
   pub real : Real (asked_by absent)
   pub accepted : Transfers (asked_by absent) absent.order seeking sought_id
-  pub mounted : disk_in strange ≡ Present (disk 1 1 2 1)
+  pub mounted : disk_in strange ≡ Some (disk 1 1 2 1)
   pub missing : Missing (disk 1 1 2 1) strange (head_of absent.order (asked_by absent)) 0 seeking sought_id
   pub spins : Spins 1 (calls_of absent) (asked_by absent)
   pub alone : Alone 1 strange (calls_of absent) (asked_by absent)

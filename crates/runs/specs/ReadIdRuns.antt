@@ -1,8 +1,7 @@
 -- A Read ID on a track whose slot 0 has mark 0 and slot 1 an ID meets all premises of `ReadIdGives`, one on a track
 -- without IDs those of `ReadIdNone` (01 Read ID). And so they end.
 -- Assumes nothing.
-use Rattle.std.specs.Prelude.{ℕ, ◌≤◌, Bool, true, false, List, [], ◌∷◌, ◌≡◌, set}
-use Rattle.image.specs.declared.disk.Disk.TheVariants.{Present}
+use Rattle.std.specs.Prelude.{ℕ, ◌≤◌, Bool, true, false, List, [], ◌∷◌, ◌≡◌, set, Some}
 use Rattle.image.specs.declared.slot.Id.{Id}
 use Rattle.image.specs.Disk.{disk_in}
 use Rattle.image.specs.Examples.{disk}
@@ -45,7 +44,7 @@ neither_id = identifying (set (double 0) 274 0)
 pub record ReadIdRun (x : WholeGiven) (normal : Bool) (st1 : ℕ) (id : Id) : Type 0 where
   pub real : Real (asked_by x)
   pub accepted : Identifies (asked_by x) x.order
-  pub mounted : disk_in x.img ≡ Present x.disk
+  pub mounted : disk_in x.img ≡ Some x.disk
   pub spins : Spins x.order.drive (calls_of x) (asked_by x)
   pub alone : Alone x.order.drive x.img (calls_of x) (asked_by x)
   pub enough : bound_of x.disk ≤ tick_count (calls_of x)

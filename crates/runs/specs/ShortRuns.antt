@@ -3,8 +3,7 @@
 -- from a sector begun. Reads that the host leaves: RowRuns, `overrun` to `late_other`; HandedExamples, `late`;
 -- DataErrorExamples, `late_ends`.
 -- Assumes nothing.
-use Rattle.std.specs.Prelude.{ℕ, zero, suc, ◌*◌, ◌<◌, true, false, List, [], ◌∷◌, ◌++◌, ◌≡◌, length, get_or, take, drop, replicate}
-use Rattle.image.specs.declared.disk.Disk.TheVariants.{Present}
+use Rattle.std.specs.Prelude.{ℕ, zero, suc, ◌*◌, ◌<◌, true, false, List, [], ◌∷◌, ◌++◌, ◌≡◌, length, get_or, take, drop, replicate, Some}
 use Rattle.image.specs.declared.slot.Id.{Id}
 use Rattle.image.specs.Disk.{disk_in}
 use Rattle.image.specs.Examples.{disk}
@@ -103,7 +102,7 @@ pub record Filling (x : WholeGiven) (more : List Call) : Type 0 where
   pub transfer : Transfer
   pub id : Id
   pub accepted : Writes (asked_by x) x.order transfer id
-  pub mounted : disk_in x.img ≡ Present x.disk
+  pub mounted : disk_in x.img ≡ Some x.disk
   pub its : Its (calls_of x) (asked_by x)
   pub alone : Alone x.order.drive x.img (calls_of x) (asked_by x)
   pub missing : Missing x.disk (done_by x)

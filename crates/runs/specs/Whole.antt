@@ -1,8 +1,7 @@
 -- Whole commands, call by call: what a closed run is given, and what is seen at its end. Each begins with Configure,
 -- so that it does not rest on the FIFO's state at power-on.
 -- Assumes nothing.
-use Rattle.std.specs.Prelude.{ℕ, Bool, true, cond, List, [], ◌∷◌, ◌++◌, ◌≡◌, eqb}
-use Rattle.image.specs.declared.disk.Disk.TheVariants.{Present}
+use Rattle.std.specs.Prelude.{ℕ, Bool, true, cond, List, [], ◌∷◌, ◌++◌, ◌≡◌, eqb, Some}
 use Rattle.image.specs.declared.layout.Geometry.{Geometry}
 use Rattle.image.specs.declared.slot.Id.{Id}
 use Rattle.image.specs.Disk.{disk_in}
@@ -150,7 +149,7 @@ pub record WriteRun (x : WholeGiven) (o : WholeOutcome) : Type 0 where
   pub transfer : Transfer
   pub id : Id
   pub accepted : Writes (asked_by x) x.order transfer id
-  pub mounted : disk_in x.img ≡ Present x.disk
+  pub mounted : disk_in x.img ≡ Some x.disk
   pub its : Its (calls_of x) (asked_by x)
   pub alone : Alone x.order.drive x.img (calls_of x) (asked_by x)
   pub outcome : Wrote x o
@@ -161,7 +160,7 @@ pub record ReadRun (x : WholeGiven) (o : WholeOutcome) : Type 0 where
   pub transfer : Transfer
   pub id : Id
   pub accepted : Reads (asked_by x) x.order transfer id
-  pub mounted : disk_in x.img ≡ Present x.disk
+  pub mounted : disk_in x.img ≡ Some x.disk
   pub its : Its (calls_of x) (asked_by x)
   pub alone : Alone x.order.drive x.img (calls_of x) (asked_by x)
   pub outcome : Took x o
@@ -172,7 +171,7 @@ pub record FormatRun (x : WholeGiven) (result host left : List ℕ) : Type 0 whe
   pub plan : Plan
   pub accepted : (asked_by x).phase ≡ Starting x.order
   pub formats : x.order.job ≡ Format plan
-  pub mounted : disk_in x.img ≡ Present x.disk
+  pub mounted : disk_in x.img ≡ Some x.disk
   pub its : Its (calls_of x) (asked_by x)
   pub alone : Alone x.order.drive x.img (calls_of x) (asked_by x)
   pub ends : (run_calls (calls_of x) (asked_by x)).phase ≡ Answering true

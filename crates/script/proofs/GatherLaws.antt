@@ -7,11 +7,11 @@ use mathlib.Core.List.{List}
 use mathlib.Core.Path.{◌≡◌, refl, ap}
 use lib.ListN.{length}
 use borrow.Author.Tests.{lt-ltb, le-ltb}
+use Rattle.std.specs.Prelude.{Err}
 use Rattle.log_lines.specs.Gather.{no_text, added_all}
 use Rattle.log_lines.proofs.GatherLaws.{added_holds, full}
 use Rattle.script.specs.Line.{script_line, script_within, script_gathered}
 use Rattle.script.specs.declared.line.Expected.TheVariants as expected
-use Rattle.script.specs.declared.line.Line.TheVariants.{Malformed}
 
 -- a line that fits
 pub script_line_lem : (s : List ℕ) → length s ≤ 255 → script_gathered (added_all s no_text) ≡ script_line s
@@ -23,7 +23,7 @@ script_line_lem s h =
 -- a line of 256 bytes, and more
 pub script_long : (s more : List ℕ)
     → length s ≡ 256
-    → script_gathered (added_all more (added_all s no_text)) ≡ Malformed expected.Shorter
+    → script_gathered (added_all more (added_all s no_text)) ≡ Err expected.Shorter
 unfolding script_within
 script_long s more h =
     let all = added_holds s no_text refl (omega arith) in

@@ -1,3 +1,4 @@
+pub mod DecimalLaws
 pub mod Examples
 pub mod GatherLaws
 pub mod StretchLaws

@@ -1,53 +1,31 @@
--- Steps of a walk over the pairs of equal bytes, or of different ones, of two lists; and what such a stretch says of
--- the bytes in it: those that a replay does not write back are those that the file already has.
+-- A stretch of equal bytes, or of different ones, is what is taken while it is of the kind; and what such a stretch says
+-- of the bytes in it: those that a replay does not write back are those that the file already has.
 -- Assumes nothing.
-use Prim.Native.Nat.{ℕ, zero, suc, ◌+◌, ◌≤◌, ◌<◌}
-use native.Mathlib.Numerals.{add-one}
+use Prim.Native.Nat.{ℕ, zero, suc, ◌<◌}
 use native.Mathlib.Omega.{arith}
 use mathlib.Core.Bool.{Bool, true, false, cond, beq}
 use mathlib.Core.List.{List, [], ◌∷◌}
-use mathlib.Core.Path.{◌≡◌, refl}
+use mathlib.Core.Path.{◌≡◌, refl, sym, ap, ◌∙◌}
+use Rattle.std.specs.List.{prefix_len, take_while, zip}
+use Rattle.std.proofs.lemmas.List.Folds.{length-prefix_len}
 use lib.Dec.{eqb}
-use lib.ListN.{length, get_or, drop, drop_of_length-le}
-use lib.Seq.{drop-cons}
+use lib.ListN.{length, get_or}
 use borrow.Author.Tests.{eqb-true}
 use Rattle.script.specs.Change.{stretch}
 
-module _ (equal : Bool) (old new : List ℕ) (i : ℕ) where
-  same : i < length old → i < length new → beq (eqb (get_or old i 0) (get_or new i 0)) equal ≡ true
-      → stretch equal (drop i old) (drop i new) ≡ suc (stretch equal (drop (suc i) old) (drop (suc i) new))
+module _ (equal : Bool) where
+  stretch_prefix : (old new : List ℕ) → stretch equal old new ≡ prefix_len (λ p. beq (eqb p.0 p.1) equal) (zip old new)
   unfolding stretch
-  same h k e = rw (drop-cons old i 0 h, drop-cons new i 0 k, e)
+  stretch_prefix [] new = refl
+  stretch_prefix (x ∷ old) [] = refl
+  stretch_prefix (x ∷ old) (y ∷ new) =
+      ap (λ n. cond (beq (eqb x y) equal) n 0) (omega (arith, stretch_prefix old new))
 
-  other : i < length old → i < length new → beq (eqb (get_or old i 0) (get_or new i 0)) equal ≡ false
-      → stretch equal (drop i old) (drop i new) ≡ 0
-  unfolding stretch
-  other h k e = rw (drop-cons old i 0 h, drop-cons new i 0 k, e)
-
-  -- a pair of the kind is passed: the stretch ends where it did
-  pub step : i < length old → i < length new → beq (eqb (get_or old i 0) (get_or new i 0)) equal ≡ true
-      → i + 1 + stretch equal (drop (i + 1) old) (drop (i + 1) new) ≡ i + stretch equal (drop i old) (drop i new)
-  step h k e = rw (add-one i, same h k e) (omega arith)
-
-  -- a pair of the other kind: it ends here
-  pub stop : i < length old → i < length new → beq (eqb (get_or old i 0) (get_or new i 0)) equal ≡ false
-      → i + stretch equal (drop i old) (drop i new) ≡ i
-  stop h k e = rw (other h k e) (omega arith)
-
-  -- so it does at the end of either list
-  pub past_old : length old ≤ i → i + stretch equal (drop i old) (drop i new) ≡ i
-  unfolding stretch
-  past_old h = rw (drop_of_length-le old h) (omega arith)
-
-none_left : (equal : Bool) (old : List ℕ) → stretch equal old [] ≡ 0
-unfolding stretch
-none_left equal [] = refl
-none_left equal (x ∷ old) = refl
-
-pub past_new : (equal : Bool) (old new : List ℕ) (i : ℕ)
-    → length new ≤ i
-    → i + stretch equal (drop i old) (drop i new) ≡ i
-past_new equal old new i h = rw (drop_of_length-le new h, none_left equal (drop i old)) (omega arith)
+  -- the bytes that are taken are those of the stretch
+  pub stretch_taken : (old new : List ℕ)
+      → stretch equal old new ≡ length (take_while (λ p. beq (eqb p.0 p.1) equal) (zip old new))
+  stretch_taken old new =
+      stretch_prefix old new ∙ sym (length-prefix_len (λ p. beq (eqb p.0 p.1) equal) (zip old new))
 
 -- a byte that lies in a stretch of equal ones is the same in both
 pub stretch_equal : (old new : List ℕ) (i : ℕ) → i < stretch true old new → get_or old i 0 ≡ get_or new i 0

@@ -6,17 +6,14 @@
 -- A blank line says nothing, nor does one whose first byte past the blanks is `#`. Of a malformed line the first word
 -- that is not as expected is told. Words and hexadecimal numbers are those of the crate log_lines.
 -- Assumes nothing.
-use Rattle.std.specs.Prelude.{ℕ, ◌+◌, ◌*◌, ◌||◌, cond, List, eqb, leb, ltb, get_or, take}
+use Rattle.std.specs.Prelude.{ℕ, ◌+◌, ◌&&◌, Bool, false, cond, List, eqb, leb, ltb, get_or, take, Option, None, Some, Result, Ok, Err, codes}
 use Rattle.log_lines.specs.Hex.{hex_in}
 use Rattle.log_lines.specs.Line.{text_length}
-use Rattle.log_lines.specs.Words.{word_length, word_from, letter_in}
+use Rattle.log_lines.specs.Words.{word_length, word_from, letter_in, says_nothing, over}
 use Rattle.log_lines.specs.declared.gather.Gathered.{Gathered}
-use Rattle.log_lines.specs.declared.hex.Number.{Number}
-use Rattle.log_lines.specs.declared.hex.Number.TheVariants as number
 use Rattle.log_lines.specs.declared.words.Word.{Word}
 use Rattle.script.specs.Decimal.{decimal_in, head_in}
-use Rattle.script.specs.declared.decimal.Decimal.{Decimal}
-use Rattle.script.specs.declared.decimal.Decimal.TheVariants as decimal
+use Rattle.script.specs.declared.line.Expected.{Expected}
 use Rattle.script.specs.declared.line.Expected.TheVariants as expected
 use Rattle.script.specs.declared.line.Line.{Line}
 use Rattle.script.specs.declared.line.Line.TheVariants.{
@@ -29,140 +26,159 @@ use Rattle.script.specs.declared.line.Line.TheVariants.{
   Give,
   Change,
   Ticks,
-  Malformed,
 }
 
-abbrev pub pair_of : ℕ → ℕ → ℕ
-pair_of first second = first * 256 + second
+-- the two bytes of a word of two; of any other word none
+unfoldable pub pair_in : List ℕ → Word → Option (ℕ × ℕ)
+pair_in t w = cond (eqb (word_length w) 2) (Some (get_or t w.start 0, get_or t (w.start + 1) 0)) None
 
--- the two bytes of a word of two; of any other word 0
-unfoldable pub pair_in : List ℕ → Word → ℕ
-pair_in t w = cond (eqb (word_length w) 2) (pair_of (get_or t w.start 0) (get_or t (w.start + 1) 0)) 0
+-- whether a word's two bytes are these
+abbrev pub is_pair : ℕ → ℕ → Option (ℕ × ℕ) → Bool
+is_pair first second (Some pair) = eqb pair.0 first && eqb pair.1 second
+is_pair first second None = false
 
 -- that line, where no word follows
-unfoldable pub script_ended : List ℕ → ℕ → Line → Line
-script_ended t at line = cond (eqb (word_length (word_from t at)) 0) line (Malformed expected.End)
+unfoldable pub script_ended : List ℕ → ℕ → Line → Result Line Expected
+script_ended t at line = over t at line expected.End
 
 -- `r OFFSET -> BYTE`, by the number that was to be the value
-abbrev pub recorded_by : List ℕ → ℕ → ℕ → Number → Line
-recorded_by t at offset (number.Byte byte) = script_ended t at (Recorded offset byte)
-recorded_by t at offset number.None = Malformed expected.Byte
+abbrev pub recorded_by : List ℕ → ℕ → ℕ → Option ℕ → Result Line Expected
+recorded_by t at offset (Some byte) = script_ended t at (Recorded offset byte)
+recorded_by t at offset None = Err expected.Byte
 
-unfoldable pub recorded_from : List ℕ → ℕ → ℕ → Line
+unfoldable pub recorded_from : List ℕ → ℕ → ℕ → Result Line Expected
 recorded_from t at offset = recorded_by t (word_from t at).stop offset (hex_in t (word_from t at))
 
 -- behind a read's offset: `->` 2D 3E (hexadecimal) and what follows, or nothing
-unfoldable pub arrow_from : List ℕ → ℕ → ℕ → Line
+unfoldable pub arrow_from : List ℕ → ℕ → ℕ → Result Line Expected
 arrow_from t at offset =
-    cond (eqb (pair_in t (word_from t at)) 0x2D3E) (recorded_from t (word_from t at).stop offset)
+    cond (is_pair 0x2D 0x3E (pair_in t (word_from t at))) (recorded_from t (word_from t at).stop offset)
     (script_ended t at (Read offset))
 
-abbrev pub script_read_by : List ℕ → ℕ → Number → Line
-script_read_by t at (number.Byte offset) = arrow_from t at offset
-script_read_by t at number.None = Malformed expected.Offset
+abbrev pub script_read_by : List ℕ → ℕ → Option ℕ → Result Line Expected
+script_read_by t at (Some offset) = arrow_from t at offset
+script_read_by t at None = Err expected.Offset
 
-unfoldable pub script_read : List ℕ → ℕ → Line
+unfoldable pub script_read : List ℕ → ℕ → Result Line Expected
 script_read t at = script_read_by t (word_from t at).stop (hex_in t (word_from t at))
 
 -- `w OFFSET BYTE`
-abbrev pub script_byte_by : List ℕ → ℕ → ℕ → Number → Line
-script_byte_by t at offset (number.Byte byte) = script_ended t at (Write offset byte)
-script_byte_by t at offset number.None = Malformed expected.Byte
+abbrev pub script_byte_by : List ℕ → ℕ → ℕ → Option ℕ → Result Line Expected
+script_byte_by t at offset (Some byte) = script_ended t at (Write offset byte)
+script_byte_by t at offset None = Err expected.Byte
 
-unfoldable pub script_byte : List ℕ → ℕ → ℕ → Line
+unfoldable pub script_byte : List ℕ → ℕ → ℕ → Result Line Expected
 script_byte t at offset = script_byte_by t (word_from t at).stop offset (hex_in t (word_from t at))
 
-abbrev pub script_write_by : List ℕ → ℕ → Number → Line
-script_write_by t at (number.Byte offset) = script_byte t at offset
-script_write_by t at number.None = Malformed expected.Offset
+abbrev pub script_write_by : List ℕ → ℕ → Option ℕ → Result Line Expected
+script_write_by t at (Some offset) = script_byte t at offset
+script_write_by t at None = Err expected.Offset
 
-unfoldable pub script_write : List ℕ → ℕ → Line
+unfoldable pub script_write : List ℕ → ℕ → Result Line Expected
 script_write t at = script_write_by t (word_from t at).stop (hex_in t (word_from t at))
 
+-- the flag that a number says: 0 or 1
+abbrev pub flag_in : Option ℕ → Option Bool
+flag_in (Some n) = cond (leb n 1) (Some (eqb n 1)) None
+flag_in None = None
+
 -- `dr TC`: 0 or 1
-unfoldable pub take_at_of : List ℕ → ℕ → ℕ → Line
-take_at_of t at tc = cond (leb tc 1) (script_ended t at (Take (eqb tc 1))) (Malformed expected.Tc)
+unfoldable pub take_at_of : List ℕ → ℕ → ℕ → Result Line Expected
+take_at_of t at tc = cond (leb tc 1) (script_ended t at (Take (eqb tc 1))) (Err expected.Tc)
 
-abbrev pub take_by : List ℕ → ℕ → Number → Line
-take_by t at (number.Byte tc) = take_at_of t at tc
-take_by t at number.None = Malformed expected.Tc
+abbrev pub take_by : List ℕ → ℕ → Option ℕ → Result Line Expected
+take_by t at (Some tc) = take_at_of t at tc
+take_by t at None = Err expected.Tc
 
-unfoldable pub take_from : List ℕ → ℕ → Line
+unfoldable pub take_from : List ℕ → ℕ → Result Line Expected
 take_from t at = take_by t (word_from t at).stop (hex_in t (word_from t at))
 
 -- `dw BYTE TC`
-unfoldable pub give_at : List ℕ → ℕ → ℕ → ℕ → Line
-give_at t at byte tc = cond (leb tc 1) (script_ended t at (Give byte (eqb tc 1))) (Malformed expected.Tc)
+unfoldable pub give_at : List ℕ → ℕ → ℕ → ℕ → Result Line Expected
+give_at t at byte tc = cond (leb tc 1) (script_ended t at (Give byte (eqb tc 1))) (Err expected.Tc)
 
-abbrev pub tc_by : List ℕ → ℕ → ℕ → Number → Line
-tc_by t at byte (number.Byte tc) = give_at t at byte tc
-tc_by t at byte number.None = Malformed expected.Tc
+abbrev pub tc_by : List ℕ → ℕ → ℕ → Option ℕ → Result Line Expected
+tc_by t at byte (Some tc) = give_at t at byte tc
+tc_by t at byte None = Err expected.Tc
 
-unfoldable pub tc_from : List ℕ → ℕ → ℕ → Line
+unfoldable pub tc_from : List ℕ → ℕ → ℕ → Result Line Expected
 tc_from t at byte = tc_by t (word_from t at).stop byte (hex_in t (word_from t at))
 
-abbrev pub give_by : List ℕ → ℕ → Number → Line
-give_by t at (number.Byte byte) = tc_from t at byte
-give_by t at number.None = Malformed expected.Byte
+abbrev pub give_by : List ℕ → ℕ → Option ℕ → Result Line Expected
+give_by t at (Some byte) = tc_from t at byte
+give_by t at None = Err expected.Byte
 
-unfoldable pub give_from : List ℕ → ℕ → Line
+unfoldable pub give_from : List ℕ → ℕ → Result Line Expected
 give_from t at = give_by t (word_from t at).stop (hex_in t (word_from t at))
 
 -- `c DRIVE`
-abbrev pub change_by : List ℕ → ℕ → Number → Line
-change_by t at (number.Byte drive) = script_ended t at (Change drive)
-change_by t at number.None = Malformed expected.Drive
+abbrev pub change_by : List ℕ → ℕ → Option ℕ → Result Line Expected
+change_by t at (Some drive) = script_ended t at (Change drive)
+change_by t at None = Err expected.Drive
 
-unfoldable pub change_from : List ℕ → ℕ → Line
+unfoldable pub change_from : List ℕ → ℕ → Result Line Expected
 change_from t at = change_by t (word_from t at).stop (hex_in t (word_from t at))
 
 -- `t COUNT`
-abbrev pub ticks_by : List ℕ → ℕ → Decimal → Line
-ticks_by t at (decimal.Value n) = script_ended t at (Ticks n)
-ticks_by t at decimal.None = Malformed expected.Count
+abbrev pub ticks_by : List ℕ → ℕ → Option ℕ → Result Line Expected
+ticks_by t at (Some n) = script_ended t at (Ticks n)
+ticks_by t at None = Err expected.Count
 
-unfoldable pub ticks_from : List ℕ → ℕ → Line
+unfoldable pub ticks_from : List ℕ → ℕ → Result Line Expected
 ticks_from t at = ticks_by t (word_from t at).stop (decimal_in t (word_from t at))
 
 -- `p HEAD HEAD`
-abbrev pub second_head_by : List ℕ → ℕ → ℕ → Number → Line
-second_head_by t at head0 (number.Byte head1) = script_ended t at (Power head0 head1)
-second_head_by t at head0 number.None = Malformed expected.Head
+abbrev pub second_head_by : List ℕ → ℕ → ℕ → Option ℕ → Result Line Expected
+second_head_by t at head0 (Some head1) = script_ended t at (Power head0 head1)
+second_head_by t at head0 None = Err expected.Head
 
-unfoldable pub head_from : List ℕ → ℕ → ℕ → Line
+unfoldable pub head_from : List ℕ → ℕ → ℕ → Result Line Expected
 head_from t at head0 = second_head_by t (word_from t at).stop head0 (head_in t (word_from t at))
 
-abbrev pub power_by : List ℕ → ℕ → Number → Line
-power_by t at (number.Byte head0) = head_from t at head0
-power_by t at number.None = Malformed expected.Head
+abbrev pub power_by : List ℕ → ℕ → Option ℕ → Result Line Expected
+power_by t at (Some head0) = head_from t at head0
+power_by t at None = Err expected.Head
 
-unfoldable pub power_from : List ℕ → ℕ → Line
+unfoldable pub power_from : List ℕ → ℕ → Result Line Expected
 power_from t at = power_by t (word_from t at).stop (head_in t (word_from t at))
 
--- `r` 72, `w` 77, `t` 74, `p` 70, `c` 63 (hexadecimal) and what follows
-unfoldable pub letter_call : List ℕ → ℕ → ℕ → Line
-letter_call t at letter =
+-- a call by the letter that its word is: `r` 72, `w` 77, `t` 74, `p` 70, `c` 63 (hexadecimal) and what follows
+unfoldable pub letter_call : List ℕ → ℕ → Option ℕ → Result Line Expected
+letter_call t at (Some letter) =
     cond (eqb letter 0x72) (script_read t at)
     (cond (eqb letter 0x77) (script_write t at)
     (cond (eqb letter 0x74) (ticks_from t at)
     (cond (eqb letter 0x70) (power_from t at)
     (cond (eqb letter 0x63) (change_from t at)
-    (Malformed expected.Call)))))
+    (Err expected.Call)))))
+letter_call t at None = Err expected.Call
 
 -- blank or a comment; else `dr` 64 72, `dw` 64 77, or one letter
-unfoldable pub script_call : List ℕ → Line
+unfoldable pub script_call : List ℕ → Result Line Expected
 script_call t =
-    cond (eqb (word_length (word_from t 0)) 0 || eqb (get_or t (word_from t 0).start 0) 0x23) Nothing
-    (cond (eqb (pair_in t (word_from t 0)) 0x6472) (take_from t (word_from t 0).stop)
-    (cond (eqb (pair_in t (word_from t 0)) 0x6477) (give_from t (word_from t 0).stop)
+    cond (says_nothing t (word_from t 0)) (Ok Nothing)
+    (cond (is_pair 0x64 0x72 (pair_in t (word_from t 0))) (take_from t (word_from t 0).stop)
+    (cond (is_pair 0x64 0x77 (pair_in t (word_from t 0))) (give_from t (word_from t 0).stop)
     (letter_call t (word_from t 0).stop (letter_in t (word_from t 0)))))
 
-unfoldable pub script_line : List ℕ → Line
+unfoldable pub script_line : List ℕ → Result Line Expected
 script_line s = script_call (take (text_length s) s)
 
 -- the line that the first n bytes of a text are: 255 at most
-unfoldable pub script_within : List ℕ → ℕ → Line
-script_within text n = cond (ltb n 256) (script_line (take n text)) (Malformed expected.Shorter)
+unfoldable pub script_within : List ℕ → ℕ → Result Line Expected
+script_within text n = cond (ltb n 256) (script_line (take n text)) (Err expected.Shorter)
 
-abbrev pub script_gathered : Gathered → Line
+abbrev pub script_gathered : Gathered → Result Line Expected
 script_gathered g = script_within g.text g.length
+
+-- what was expected, in words
+abbrev pub script_expected_text : Expected → List ℕ
+script_expected_text expected.Call = codes "a call: p, w, r, dr, dw, c or t"
+script_expected_text expected.Head = codes "a head position, a decimal number up to 255"
+script_expected_text expected.Offset = codes "an offset, a hexadecimal byte"
+script_expected_text expected.Byte = codes "a value, a hexadecimal byte"
+script_expected_text expected.Tc = codes "TC, 0 or 1"
+script_expected_text expected.Drive = codes "a drive, a hexadecimal byte"
+script_expected_text expected.Count = codes "a count of ticks, a decimal number up to 999999999"
+script_expected_text expected.End = codes "the end of the line"
+script_expected_text expected.Shorter = codes "a line of at most 255 bytes"

@@ -1,6 +1,6 @@
 -- What a replay counts (house: a last line counts calls, refusals and differences where any value was recorded).
 -- Assumes nothing.
-use Rattle.std.specs.Prelude.{ℕ, ◌+◌, Bool, true, false, cond, ltb}
+use Rattle.std.specs.Prelude.{ℕ, ◌+◌, Bool, true, false, cond, ltb, List, ◌++◌, codes, decimal}
 use Rattle.script.specs.declared.tally.Tally.{Tally}
 
 -- a count of 64 bits stays at its largest number
@@ -32,3 +32,8 @@ compared_of differs t =
       differences = more_if differs t.differences;
       recorded = true;
     }
+
+-- the counts, in words
+abbrev pub tally_text : Tally → List ℕ
+tally_text t =
+    codes "calls " ++ (decimal t.calls ++ (codes " refusals " ++ (decimal t.refusals ++ (codes " differences " ++ decimal t.differences))))

@@ -1,35 +1,35 @@
 // What a replay counts: calls, refusals and values that differ from those recorded. A count stays where it is at the
 // largest number that there is.
-ghost use Rattle.std.specs.Prelude.{◌≡◌};
-ghost use Rattle.script.specs.Tally.{one_more, more_if, no_tally, tallied_of, compared_of};
+ghost use Rattle.std.specs.Prelude.{◌≡◌, Some};
+ghost use Rattle.script.specs.Tally.{tally_text, no_tally, tallied_of, compared_of};
 
-#[derive(Clone, Copy)]
+use std::fmt;
+
+#[derive(Clone, Copy, Debug, PartialEq, Eq)]
 pub struct Tally {
     pub calls: u64,
     pub refusals: u64,
     pub differences: u64,
-    // Whether any value was recorded.
+    // Whether any value was recorded. No Option of the differences: `tallied_of` and `compared_of` answer on a count of
+    // them with nothing recorded too.
     pub recorded: bool,
 }
 
-#[tactic(auto, unfolding(crate::specs::Tally::one_more))]
-fn one_more(n: u64) -> u64
-    ensures { result ≡ one_more n }
-{
-    if n < 18446744073709551615 {
-        return n + 1;
-    }
-    n
-}
+impl fmt::Display for Tally {
+    ghost output = { λ t. Some (tally_text t) };
 
-#[tactic(auto, unfolding(crate::specs::Tally::more_if))]
-fn more_if(on: bool, n: u64) -> u64
-    ensures { result ≡ more_if on n }
-{
-    if on {
-        return one_more(n);
+    fn fmt<W: fmt::Write>(&self, f: &mut fmt::Formatter<W>) -> fmt::Result {
+        let Tally {
+            calls,
+            refusals,
+            differences,
+            ..
+        } = *self;
+        write!(
+            f,
+            "calls {calls} refusals {refusals} differences {differences}"
+        )
     }
-    n
 }
 
 impl Tally {
@@ -45,28 +45,26 @@ impl Tally {
     }
 
     // A call more.
-    #[tactic(auto, unfolding(crate::specs::Tally::tallied_of))]
+    #[tactic(auto, unfolding(crate::specs::Tally::tallied_of, crate::specs::Tally::more_if, crate::specs::Tally::one_more))]
     pub fn called(self, refused: bool) -> Tally
         ensures { result ≡ tallied_of refused self }
     {
         Tally {
-            calls: one_more(self.calls),
-            refusals: more_if(refused, self.refusals),
-            differences: self.differences,
-            recorded: self.recorded,
+            calls: self.calls.saturating_add(1),
+            refusals: self.refusals.saturating_add(u64::from(refused)),
+            ..self
         }
     }
 
     // A recorded value more.
-    #[tactic(auto, unfolding(crate::specs::Tally::compared_of))]
+    #[tactic(auto, unfolding(crate::specs::Tally::compared_of, crate::specs::Tally::more_if, crate::specs::Tally::one_more))]
     pub fn compared(self, differs: bool) -> Tally
         ensures { result ≡ compared_of differs self }
     {
         Tally {
-            calls: self.calls,
-            refusals: self.refusals,
-            differences: more_if(differs, self.differences),
+            differences: self.differences.saturating_add(u64::from(differs)),
             recorded: true,
+            ..self
         }
     }
 }

@@ -1,13 +1,12 @@
 -- 01 Next: what a finished or skipped sector is followed by. The rule and the address are `next_of`, of the crate
 -- below; the address it carries is used as it stands, so that R is advanced once (01 Easy 1).
 -- Assumes nothing.
-use Rattle.std.specs.Prelude.{ℕ, Bool, true, false, cond}
+use Rattle.std.specs.Prelude.{ℕ, Bool, true, false, cond, None}
 use Rattle.chip.specs.declared.fifo.Fifo.{Fifo}
 use Rattle.chip.specs.declared.next.Next.{Next}
 use Rattle.chip.specs.declared.next.Next.TheVariants.{Ended, PastEot, OtherSide, SameSide}
 use Rattle.chip.specs.Next.{next_of}
-use Rattle.image.specs.declared.lent.Effect.{Effect}
-use Rattle.image.specs.declared.lent.Effect.TheVariants.{Nothing}
+use Rattle.image.specs.Lent.{Effect}
 use Rattle.image.specs.declared.slot.Id.{Id}
 use Rattle.sectors.specs.declared.work.Search.{Search}
 use Rattle.sectors.specs.declared.work.Site.{Site}
@@ -49,5 +48,5 @@ follow_of slot tc site task fifo effect =
 -- 01 Data commands: for an MT turn, the tests in the tick after it, and nothing else in that tick (D-101)
 unfoldable pub turn_of : ℕ → Site → Task → ℕ → Fifo → Step
 turn_of slot site task head fifo =
-    cond (has_track site.disk head site.side) (moves_of (Searching (fresh_at slot)) site task fifo Nothing)
+    cond (has_track site.disk head site.side) (moves_of (Searching (fresh_at slot)) site task fifo None)
     (move_fails 0x01 0x00 site task)

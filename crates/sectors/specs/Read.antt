@@ -1,9 +1,8 @@
 -- 01 Read: a sector's bytes to the FIFO, one a tick, then the looks at the FIFO until it is empty.
 -- Assumes nothing.
-use Rattle.std.specs.Prelude.{ℕ, ◌+◌, Bool, true, cond, List, eqb, leb, get_or}
+use Rattle.std.specs.Prelude.{ℕ, ◌+◌, Bool, true, cond, List, eqb, leb, get_or, None}
 use Rattle.chip.specs.declared.fifo.Fifo.{Fifo}
 use Rattle.chip.specs.Fifo.{full_of, filled_of, shut}
-use Rattle.image.specs.declared.lent.Effect.TheVariants.{Nothing}
 use Rattle.sectors.specs.declared.work.Sector.{Sector}
 use Rattle.sectors.specs.declared.work.Site.{Site}
 use Rattle.sectors.specs.declared.work.Stage.TheVariants.{Reading, Draining}
@@ -24,8 +23,8 @@ sector_over site done = leb (sector_bytes site) (done + 1)
 -- one byte further
 unfoldable pub read_on : Sector → ℕ → Site → Task → Fifo → Step
 read_on sector done site task fifo =
-    cond (sector_over site done) (moves_of (Draining sector 0) site task fifo Nothing)
-    (moves_of (Reading sector (done + 1)) site task fifo Nothing)
+    cond (sector_over site done) (moves_of (Draining sector 0) site task fifo None)
+    (moves_of (Reading sector (done + 1)) site task fifo None)
 
 -- 02 2026-02: a byte to move and the FIFO full: ST1 10; that byte is lost, the FIFO is emptied, the request off for
 -- good, and the sector is run to its end
@@ -46,14 +45,14 @@ read_of sector done site task head img fifo efifo fifothr =
 unfoldable pub drained_of : Sector → Site → Task → Fifo → Step
 drained_of sector site task fifo =
     cond sector.broken (move_fails 0x20 0x20 site task)
-    (cond task.late (late_end Nothing site task)
-    (cond sector.other (move_end true 0x00 0x00 task.id Nothing site task)
-    (follow_of sector.slot fifo.tc site task fifo Nothing)))
+    (cond task.late (late_end None site task)
+    (cond sector.other (move_end true 0x00 0x00 task.id None site task)
+    (follow_of sector.slot fifo.tc site task fifo None)))
 
 -- 01 Read: after the last byte each tick looks at the FIFO: the 64th that finds bytes ends it, ST1 10. A byte taken
 -- does not count them anew (D-110)
 unfoldable pub drain_of : Sector → ℕ → Site → Task → Fifo → Step
 drain_of sector looks site task fifo =
     cond (eqb fifo.count 0) (drained_of sector site task fifo)
-    (cond (leb 63 looks) (late_end Nothing site task)
-    (moves_of (Draining sector (looks + 1)) site task fifo Nothing))
+    (cond (leb 63 looks) (late_end None site task)
+    (moves_of (Draining sector (looks + 1)) site task fifo None))

@@ -1,11 +1,10 @@
 -- 01 Result: what a command ends with, and what a tick gives that does not end it. Which end has which bytes is said
 -- where it is met.
 -- Assumes nothing.
-use Rattle.std.specs.Prelude.{ℕ, ◌+◌, ◌*◌, ◌%◌, Bool, true, false, cond}
+use Rattle.std.specs.Prelude.{ℕ, ◌+◌, ◌*◌, ◌%◌, Bool, true, false, cond, None}
 use Rattle.chip.specs.declared.fifo.Fifo.{Fifo}
 use Rattle.chip.specs.Fifo.{emptied}
-use Rattle.image.specs.declared.lent.Effect.{Effect}
-use Rattle.image.specs.declared.lent.Effect.TheVariants.{Nothing}
+use Rattle.image.specs.Lent.{Effect}
 use Rattle.image.specs.declared.slot.Id.{Id}
 use Rattle.sectors.specs.declared.work.Site.{Site}
 use Rattle.sectors.specs.declared.work.Stage.{Stage}
@@ -47,7 +46,7 @@ move_end normal st1 st2 id effect site task =
 
 -- 01 Result: other ends give the sector in hand
 unfoldable pub move_fails : ℕ → ℕ → Site → Task → Step
-move_fails st1 st2 site task = move_end false st1 st2 task.id Nothing site task
+move_fails st1 st2 site task = move_end false st1 st2 task.id None site task
 
 -- a byte is late
 abbrev pub tardy : Task → Task

@@ -1,9 +1,8 @@
 -- 01 Search: one slot a tick, and what the look gives; 01 Read, of a mark at the match.
 -- Assumes nothing.
-use Rattle.std.specs.Prelude.{ℕ, ◌+◌, Bool, ◌&&◌, ◌||◌, not, true, cond, List, eqb, leb}
+use Rattle.std.specs.Prelude.{ℕ, ◌+◌, Bool, ◌&&◌, ◌||◌, not, true, cond, List, eqb, leb, None}
 use Rattle.std.specs.Bool.{beq}
 use Rattle.chip.specs.declared.fifo.Fifo.{Fifo}
-use Rattle.image.specs.declared.lent.Effect.TheVariants.{Nothing}
 use Rattle.image.specs.declared.mark.Mark.{Mark}
 use Rattle.image.specs.declared.mark.Mark.TheVariants.{NoId, Data, NoData}
 use Rattle.image.specs.declared.slot.Id.{Id}
@@ -70,7 +69,7 @@ one_on look slots =
 unfoldable pub missed_of : Search → Site → Task → Fifo → Step
 missed_of look site task fifo =
     cond (second_pass look.slot site.disk.slots look.passes) (not_found look site task)
-    (moves_of (Searching (one_on look site.disk.slots)) site task fifo Nothing)
+    (moves_of (Searching (one_on look site.disk.slots)) site task fifo None)
 
 -- 01 Read: other kind of mark: ST2 40 from then on
 abbrev pub with_other : Bool → Task → Task
@@ -81,20 +80,20 @@ with_other other task =
 -- (D-102). The mark seen at the match holds to the sector's end
 unfoldable pub read_found : Bool → Bool → ℕ → Site → Task → Fifo → Step
 read_found other broken slot site task fifo =
-    cond (other && task.transfer.sk) (follow_of slot fifo.tc site (with_other other task) fifo Nothing)
+    cond (other && task.transfer.sk) (follow_of slot fifo.tc site (with_other other task) fifo None)
     (moves_of (Reading (record { slot = slot; broken = broken; other = other }) 0) site (with_other other task) fifo
-    Nothing)
+    None)
 
 -- a match with data: a Write waits for its byte, whatever stood there (D-113)
 unfoldable pub data_found : Pass → Bool → Bool → ℕ → Site → Task → Fifo → Step
 data_found Read deleted broken slot site task fifo =
     read_found (not (beq deleted task.transfer.deleted)) broken slot site task fifo
-data_found Write deleted broken slot site task fifo = moves_of (Awaiting slot 0) site task fifo Nothing
+data_found Write deleted broken slot site task fifo = moves_of (Awaiting slot 0) site task fifo None
 
 -- 01 Read: mark 5: ST1 01, ST2 01. A write takes mark 5 too (D-113)
 unfoldable pub bare_found : Pass → ℕ → Site → Task → Fifo → Step
 bare_found Read slot site task fifo = move_fails 0x01 0x01 site task
-bare_found Write slot site task fifo = moves_of (Awaiting slot 0) site task fifo Nothing
+bare_found Write slot site task fifo = moves_of (Awaiting slot 0) site task fifo None
 
 -- 01 Search: it matches when the mark isn't 0 and the address is the command's
 unfoldable pub looked_of : Mark → Id → Search → Site → Task → Fifo → Step

@@ -1,9 +1,8 @@
 -- Where a data command works (01 Data commands, "The track is the one under the drive's head, on the side in use"),
 -- whether that track is there, how many bytes a sector has, and how many of them pass.
 -- Assumes nothing.
-use Rattle.std.specs.Prelude.{ℕ, ◌+◌, Bool, false, ◌&&◌, cond, ltb}
-use Rattle.image.specs.declared.disk.Disk.{Disk}
-use Rattle.image.specs.declared.disk.Disk.TheVariants.{Absent, Present}
+use Rattle.std.specs.Prelude.{ℕ, ◌+◌, Bool, false, ◌&&◌, cond, ltb, None, Some}
+use Rattle.image.specs.Disk.{Disk}
 use Rattle.image.specs.declared.layout.Geometry.{Geometry}
 use Rattle.image.specs.Layout.{offset_of, same_of, size_of}
 use Rattle.sectors.specs.declared.work.Site.{Site}
@@ -15,8 +14,8 @@ has_track g head side = ltb head g.cylinders && ltb side g.heads
 
 -- 01 Data commands: a drive emptied or header changed later: any of the header's five bytes (D-117)
 unfoldable pub stays_of : Disk → Geometry → Bool
-stays_of Absent met = false
-stays_of (Present g) met = same_of g met
+stays_of None met = false
+stays_of (Some g) met = same_of g met
 
 -- where the mark of a slot stands
 unfoldable pub mark_place : Site → ℕ → ℕ → ℕ

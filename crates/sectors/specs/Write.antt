@@ -1,9 +1,9 @@
 -- 01 Write: the wait for a byte, and then one store a tick: broken mark, B bytes, good mark.
 -- Assumes nothing.
-use Rattle.std.specs.Prelude.{ℕ, ◌+◌, Bool, true, false, ◌&&◌, cond, eqb, leb}
+use Rattle.image.specs.Lent.{put_at}
+use Rattle.std.specs.Prelude.{ℕ, ◌+◌, Bool, true, false, ◌&&◌, cond, eqb, leb, None, Some}
 use Rattle.chip.specs.declared.fifo.Fifo.{Fifo}
 use Rattle.chip.specs.Fifo.{drawn_of, front_of, shut}
-use Rattle.image.specs.declared.lent.Effect.TheVariants.{Nothing, Store}
 use Rattle.image.specs.declared.mark.Mark.TheVariants.{Data}
 use Rattle.image.specs.Mark.{byte_of}
 use Rattle.sectors.specs.declared.work.Site.{Site}
@@ -23,13 +23,13 @@ written_mark broken task = byte_of (Data task.transfer.deleted broken)
 unfoldable pub await_of : ℕ → ℕ → Site → Task → ℕ → Fifo → Step
 await_of slot wait site task head fifo =
     cond (eqb fifo.count 0)
-    (cond (leb 63 wait) (late_end Nothing site task) (moves_of (Awaiting slot (wait + 1)) site task fifo Nothing))
-    (moves_of (Storing slot 0) site task fifo (Store (mark_place site head slot) (written_mark true task)))
+    (cond (leb 63 wait) (late_end None site task) (moves_of (Awaiting slot (wait + 1)) site task fifo None))
+    (moves_of (Storing slot 0) site task fifo (Some (put_at (mark_place site head slot) (written_mark true task))))
 
 -- a byte stored
 unfoldable pub put_of : ℕ → ℕ → ℕ → Site → Task → ℕ → Fifo → Step
 put_of byte slot done site task head fifo =
-    moves_of (Storing slot (done + 1)) site task fifo (Store (data_place site head slot done) byte)
+    moves_of (Storing slot (done + 1)) site task fifo (Some (put_at (data_place site head slot done) byte))
 
 -- 02 2026-02: a byte to store, the FIFO empty without TC: ST1 10; the request goes off for good, and this is the first
 -- of the zeros that fill the sector
@@ -45,9 +45,9 @@ dry_of slot done site task head fifo =
 -- missing: the command ends, without Next
 unfoldable pub written_of : ℕ → Site → Task → ℕ → Fifo → Step
 written_of slot site task head fifo =
-    cond task.late (late_end (Store (mark_place site head slot) (written_mark false task)) site task)
+    cond task.late (late_end (Some (put_at (mark_place site head slot) (written_mark false task))) site task)
     (follow_of slot (fifo.tc && eqb fifo.count 0) site task fifo
-    (Store (mark_place site head slot) (written_mark false task)))
+    (Some (put_at (mark_place site head slot) (written_mark false task))))
 
 -- 01 Write: B bytes, one a tick
 unfoldable pub store_of : ℕ → ℕ → Site → Task → ℕ → Fifo → Bool → ℕ → Step

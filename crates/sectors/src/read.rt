@@ -2,111 +2,85 @@
 ghost use Rattle.std.specs.Prelude.{◌≡◌};
 ghost use Rattle.sectors.specs.Read.{overrun, last_byte, read_on, read_of, drained_of, drain_of};
 
-use crate::ends::{late_end, move_end, move_fails, tardy};
-use crate::follow::follow;
-use crate::result::moves;
-use crate::track::{data_place, pass_bytes, sector_bytes};
-use crate::work::{Sector, Site, Stage, Step, Task};
+use crate::work::{Moving, Sector, Stage, Step};
 use chip::fifo::Fifo;
 use image::bytes::byte_at;
-use image::lent::Effect;
 
-// For the request: the last byte sent.
-fn last_byte(site: Site, task: Task, done: u16) -> bool
-    ensures { result ≡ last_byte site task done }
-{
-    pass_bytes(site, task) <= done as usize + 1
-}
+impl Moving {
+    // For the request: the last byte sent.
+    fn last_byte(self, done: u16) -> bool
+        ensures { result ≡ last_byte self.site self.task done }
+    {
+        self.site.pass_bytes(self.task) <= usize::from(done) + 1
+    }
 
-#[tactic(auto, unfolding(crate::specs::Read::read_on))]
-fn read_on(sector: Sector, done: u16, site: Site, task: Task, fifo: Fifo) -> Step
-    ensures { result ≡ read_on sector done site task fifo }
-{
-    if sector_bytes(site) <= done as usize + 1 {
-        return moves(
-            Stage::Draining(sector, 0),
-            site,
-            task,
-            fifo,
-            Effect::Nothing,
-        );
+    #[tactic(auto, unfolding(crate::specs::Read::read_on))]
+    fn read_on(self, sector: Sector, done: u16) -> Step
+        ensures { result ≡ read_on sector done self.site self.task self.fifo }
+    {
+        if self.site.sector_bytes() <= usize::from(done) + 1 {
+            return self.moves(Stage::Draining(sector, 0), None);
+        }
+        self.moves(Stage::Reading(sector, done + 1), None)
     }
-    moves(
-        Stage::Reading(sector, done + 1),
-        site,
-        task,
-        fifo,
-        Effect::Nothing,
-    )
-}
 
-// The FIFO is full and a byte is due: it is lost, and the sector runs on as after TC (000 4.2.5).
-#[tactic(auto, unfolding(crate::specs::Read::overrun))]
-fn run_over(sector: Sector, done: u16, site: Site, task: Task) -> Step
-    ensures { result ≡ overrun sector done site task }
-{
-    read_on(sector, done, site, tardy(task), Fifo::shut())
-}
+    // The FIFO is full and a byte is due: it is lost, and the sector runs on as after TC (000 4.2.5).
+    #[tactic(auto, unfolding(crate::specs::Read::overrun))]
+    fn run_over(self, sector: Sector, done: u16) -> Step
+        ensures { result ≡ overrun sector done self.site self.task }
+    {
+        let late = Moving {
+            task: self.task.tardy(),
+            fifo: Fifo::shut(),
+            ..self
+        };
+        late.read_on(sector, done)
+    }
 
-#[tactic(auto, using(crate::proofs::CondLaws::yes, crate::proofs::CondLaws::no), unfolding(crate::specs::Read::read_of))]
-pub fn read(
-    sector: Sector,
-    done: u16,
-    site: Site,
-    task: Task,
-    head: u8,
-    s: &[u8],
-    fifo: Fifo,
-    efifo: bool,
-    fifothr: u8,
-) -> Step
-    ensures { result ≡ read_of sector done site task head s.now fifo efifo fifothr }
-{
-    if fifo.tc {
-        return read_on(sector, done, site, task, fifo);
+    #[tactic(auto, unfolding(crate::specs::Read::read_of))]
+    pub fn read(self, sector: Sector, done: u16, s: &[u8]) -> Step
+        ensures { result
+            ≡ read_of sector done self.site self.task self.head s.now self.fifo self.set.efifo self.set.fifothr }
+    {
+        if self.fifo.tc {
+            return self.read_on(sector, done);
+        }
+        if self.fifo.full(self.set.efifo) {
+            return self.run_over(sector, done);
+        }
+        let byte = byte_at(s, self.site.data_place(self.head, sector.slot, done));
+        let fifo = self.fifo.filled(self.set, self.last_byte(done), byte);
+        Moving { fifo, ..self }.read_on(sector, done)
     }
-    let full = fifo.full(efifo);
-    if full {
-        return run_over(sector, done, site, task);
-    }
-    let byte = byte_at(s, data_place(site, head, sector.slot, done));
-    let f = fifo.filled(efifo, fifothr, last_byte(site, task, done), byte);
-    read_on(sector, done, site, task, f)
-}
 
-#[tactic(auto, using(crate::proofs::CondLaws::yes, crate::proofs::CondLaws::no), unfolding(crate::specs::Read::drained_of))]
-fn drained(sector: Sector, site: Site, task: Task, fifo: Fifo) -> Step
-    ensures { result ≡ drained_of sector site task fifo }
-{
-    if sector.broken {
-        return move_fails(0x20, 0x20, site, task);
+    #[tactic(auto, unfolding(crate::specs::Read::drained_of))]
+    fn drained(self, sector: Sector) -> Step
+        ensures { result ≡ drained_of sector self.site self.task self.fifo }
+    {
+        if sector.broken {
+            return self.task.fails(0x20, 0x20, self.site);
+        }
+        if self.task.late {
+            return self.task.ends_late(None, self.site);
+        }
+        if sector.other {
+            return self
+                .task
+                .ends(true, 0x00, 0x00, self.task.id, None, self.site);
+        }
+        self.follow(sector.slot, self.fifo.tc, None)
     }
-    if task.late {
-        return late_end(Effect::Nothing, site, task);
-    }
-    if sector.other {
-        let id = task.id;
-        return move_end(true, 0x00, 0x00, id, Effect::Nothing, site, task);
-    }
-    follow(sector.slot, fifo.tc, site, task, fifo, Effect::Nothing)
-}
 
-#[tactic(auto, unfolding(crate::specs::Read::drain_of))]
-pub fn drain(sector: Sector, looks: u8, site: Site, task: Task, fifo: Fifo) -> Step
-    ensures { result ≡ drain_of sector looks site task fifo }
-{
-    let empty = fifo.count == 0;
-    if empty {
-        return drained(sector, site, task, fifo);
+    #[tactic(auto, unfolding(crate::specs::Read::drain_of))]
+    pub fn drain(self, sector: Sector, looks: u8) -> Step
+        ensures { result ≡ drain_of sector looks self.site self.task self.fifo }
+    {
+        if self.fifo.count == 0 {
+            return self.drained(sector);
+        }
+        if 63 <= looks {
+            return self.task.ends_late(None, self.site);
+        }
+        self.moves(Stage::Draining(sector, looks + 1), None)
     }
-    if 63 <= looks {
-        return late_end(Effect::Nothing, site, task);
-    }
-    moves(
-        Stage::Draining(sector, looks + 1),
-        site,
-        task,
-        fifo,
-        Effect::Nothing,
-    )
 }

@@ -1,29 +1,22 @@
 // 01 Result: an end, and a tick that ends nothing.
 ghost use Rattle.std.specs.Prelude.{◌≡◌, ◌≤◌};
-ghost use Rattle.sectors.specs.Result.{ic_of, st0_of, end_of, move_fails, goes_of, moves_of};
+ghost use Rattle.sectors.specs.Result.{st0_of, end_of, move_fails, goes_of, moves_of};
 
-use crate::ends::move_fails;
-use crate::work::{Site, Stage, Step, Task, Then, Verdict, Work};
+use crate::ends::bit;
+use crate::work::{Moving, Site, Stage, Step, Task, Then, Verdict, Work};
 use chip::fifo::Fifo;
-use image::lent::Effect;
+use image::lent::Put;
 use image::slot::Id;
-
-fn ic(normal: bool) -> u8
-    ensures value { result ≡ ic_of normal }
-    ensures upper_bound { result ≤ 0x40 }
-{
-    if normal { 0x00 } else { 0x40 }
-}
 
 fn st0(normal: bool, drive: u8, side: u8) -> u8
     ensures { result ≡ st0_of normal drive side }
 {
-    ic(normal) + 4 * (side % 2) + drive % 4
+    bit(!normal, 0x40) + 4 * (side % 2) + drive % 4
 }
 
-// Every end empties the FIFO.
+// Every end empties the FIFO. The drive and the side come by themselves: where the first tests fail there is no site.
 #[tactic(auto, unfolding(crate::specs::Result::end_of))]
-pub fn end(normal: bool, drive: u8, side: u8, st1: u8, st2: u8, id: Id, effect: Effect) -> Step
+pub fn end(normal: bool, drive: u8, side: u8, st1: u8, st2: u8, id: Id, effect: Option<Put>) -> Step
     ensures { result ≡ end_of normal drive side st1 st2 id effect }
 {
     let verdict = Verdict {
@@ -39,7 +32,7 @@ pub fn end(normal: bool, drive: u8, side: u8, st1: u8, st2: u8, id: Id, effect: 
     }
 }
 
-pub fn goes(work: Work, fifo: Fifo, effect: Effect) -> Step
+pub fn goes(work: Work, fifo: Fifo, effect: Option<Put>) -> Step
     ensures { result ≡ goes_of work fifo effect }
 {
     Step {
@@ -49,7 +42,8 @@ pub fn goes(work: Work, fifo: Fifo, effect: Effect) -> Step
     }
 }
 
-pub fn moves(stage: Stage, site: Site, task: Task, fifo: Fifo, effect: Effect) -> Step
+// A line here and a line for a Format (`forms`): they make two cases of `Work`.
+pub fn moves(stage: Stage, site: Site, task: Task, fifo: Fifo, effect: Option<Put>) -> Step
     ensures { result ≡ moves_of stage site task fifo effect }
 {
     goes(Work::Moving(site, task, stage), fifo, effect)
@@ -59,5 +53,13 @@ pub fn moves(stage: Stage, site: Site, task: Task, fifo: Fifo, effect: Effect) -
 pub fn gone(site: Site, task: Task) -> Step
     ensures { result ≡ move_fails 0x01 0x00 site task }
 {
-    move_fails(0x01, 0x00, site, task)
+    task.fails(0x01, 0x00, site)
+}
+
+impl Moving {
+    pub(crate) fn moves(self, stage: Stage, effect: Option<Put>) -> Step
+        ensures { result ≡ moves_of stage self.site self.task self.fifo effect }
+    {
+        moves(stage, self.site, self.task, self.fifo, effect)
+    }
 }

@@ -1,21 +1,34 @@
 // What a data command at work carries from its first tick on (01 Form phase).
+ghost use Rattle.std.specs.Prelude.{◌≡◌};
+ghost use Rattle.sectors.specs.Follow.{with_id, on_side, step_of};
+ghost use Rattle.sectors.specs.Result.{tardy};
+ghost use Rattle.sectors.specs.Search.{with_other};
+
 use crate::order::{Plan, Transfer};
-use chip::fifo::Fifo;
+use chip::fifo::{Fifo, Setting};
 use image::layout::Geometry;
-use image::lent::Effect;
+use image::lent::Put;
 use image::slot::Id;
 
 // Where it works: the side in use, and the header met in the first tick, since a changed one ends the command.
-#[derive(Clone, Copy)]
+#[derive(Clone, Copy, Debug, PartialEq, Eq)]
 pub struct Site {
     pub drive: u8,
     pub side: u8,
     pub disk: Geometry,
 }
 
+impl Site {
+    pub(crate) fn on_side(self, side: u8) -> Site
+        ensures { result ≡ on_side side self }
+    {
+        Site { side, ..self }
+    }
+}
+
 // A transfer with the sector in hand. other: a mark of the other kind was met, so ST2 has its 40 from then on. late: a
 // byte came late, so ST1 has its 10 from then on and the command ends with this sector (02 2026-02).
-#[derive(Clone, Copy)]
+#[derive(Clone, Copy, Debug, PartialEq, Eq)]
 pub struct Task {
     pub transfer: Transfer,
     pub id: Id,
@@ -23,8 +36,40 @@ pub struct Task {
     pub late: bool,
 }
 
+impl Task {
+    pub(crate) fn with_id(self, id: Id) -> Task
+        ensures { result ≡ with_id id self }
+    {
+        Task { id, ..self }
+    }
+
+    // A mark was met, of the other kind or not.
+    pub(crate) fn with_other(self, other: bool) -> Task
+        ensures { result ≡ with_other other self }
+    {
+        Task {
+            other: self.other | other,
+            ..self
+        }
+    }
+
+    // A byte is late (02 2026-02).
+    pub(crate) fn tardy(self) -> Task
+        ensures { result ≡ tardy self }
+    {
+        Task { late: true, ..self }
+    }
+
+    // How far R goes below EOT.
+    pub(crate) fn step(self) -> u8
+        ensures { result ≡ step_of self }
+    {
+        1
+    }
+}
+
 // One search: the slot to look at, the passes counted, whether an ID was met, and one with another C below FF, or FF.
-#[derive(Clone, Copy)]
+#[derive(Clone, Copy, Debug, PartialEq, Eq)]
 pub struct Search {
     pub slot: u8,
     pub passes: u8,
@@ -34,7 +79,7 @@ pub struct Search {
 }
 
 // A sector that is read, with what its mark said at the match.
-#[derive(Clone, Copy)]
+#[derive(Clone, Copy, Debug, PartialEq, Eq)]
 pub struct Sector {
     pub slot: u8,
     pub broken: bool,
@@ -42,7 +87,7 @@ pub struct Sector {
 }
 
 // The stages of a transfer. Bytes are counted from 0, and so are waits.
-#[derive(Clone, Copy)]
+#[derive(Clone, Copy, Debug, PartialEq, Eq)]
 pub enum Stage {
     Searching(Search),
     // The tick after an MT turn; the slot at which the search goes on.
@@ -57,7 +102,7 @@ pub enum Stage {
 }
 
 // The stages of a Format, each with its slot.
-#[derive(Clone, Copy)]
+#[derive(Clone, Copy, Debug, PartialEq, Eq)]
 pub enum Form {
     Awaiting(u8, u8),
     Addressing(u8, u8),
@@ -66,7 +111,7 @@ pub enum Form {
     Clearing(u8),
 }
 
-#[derive(Clone, Copy)]
+#[derive(Clone, Copy, Debug, PartialEq, Eq)]
 pub enum Work {
     // A slot, and the passes counted.
     Identifying(Site, u8, u8),
@@ -74,8 +119,18 @@ pub enum Work {
     Formatting(Site, Plan, Form),
 }
 
-// What a command ends with.
+// What a tick of a transfer is handed: where it works, the sector in hand, the drive's head, and the FIFO as it is set.
 #[derive(Clone, Copy)]
+pub struct Moving {
+    pub site: Site,
+    pub task: Task,
+    pub head: u8,
+    pub fifo: Fifo,
+    pub set: Setting,
+}
+
+// What a command ends with.
+#[derive(Clone, Copy, Debug, PartialEq, Eq)]
 pub struct Verdict {
     pub st0: u8,
     pub st1: u8,
@@ -83,7 +138,8 @@ pub struct Verdict {
     pub id: Id,
 }
 
-#[derive(Clone, Copy)]
+// What a tick leaves. An end is no failure and work no success, so that this is no Result.
+#[derive(Clone, Copy, Debug, PartialEq, Eq)]
 pub enum Then {
     Ends(Verdict),
     Works(Work),
@@ -94,5 +150,5 @@ pub enum Then {
 pub struct Step {
     pub then: Then,
     pub fifo: Fifo,
-    pub effect: Effect,
+    pub effect: Option<Put>,
 }

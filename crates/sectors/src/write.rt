@@ -1,4 +1,6 @@
-// 01 Write: the wait for a byte, and then one store a tick: broken mark, B bytes, good mark.
+// 01 Write: the wait for a byte, and then one store a tick: broken mark, B bytes, good mark. No type says `done < 1024`:
+// `Stage::Storing` holds any u16, as the record's bytes have it, so that one would be made in `store` and opened again in
+// `put`, which is no plainer.
 ghost use Rattle.std.specs.Prelude.{◌≡◌, ◌<◌};
 ghost use Rattle.sectors.specs.Write.{
   underrun,
@@ -10,128 +12,99 @@ ghost use Rattle.sectors.specs.Write.{
   store_of,
 };
 
-use crate::ends::{late_end, tardy};
-use crate::follow::follow;
-use crate::result::moves;
-use crate::track::{data_place, mark_place, sector_bytes};
-use crate::work::{Site, Stage, Step, Task};
+use crate::work::{Moving, Stage, Step, Task};
 use chip::fifo::Fifo;
-use image::lent::Effect;
-use image::mark::{Mark, mark_byte};
+use image::lent::Put;
+use image::mark::Mark;
 
-fn written_mark(broken: bool, task: Task) -> u8
-    ensures { result ≡ written_mark broken task }
-{
-    let deleted = task.transfer.deleted;
-    mark_byte(Mark::Data { deleted, broken })
+impl Task {
+    fn written_mark(self, broken: bool) -> u8
+        ensures { result ≡ written_mark broken self }
+    {
+        let deleted = self.transfer.deleted;
+        u8::from(Mark::Data { deleted, broken })
+    }
 }
 
-// The broken mark goes in before the first byte, so that a cut leaves the sector broken.
-#[tactic(auto, unfolding(crate::specs::Write::await_of))]
-pub fn await_byte(slot: u8, wait: u8, site: Site, task: Task, head: u8, fifo: Fifo) -> Step
-    ensures { result ≡ await_of slot wait site task head fifo }
-{
-    let empty = fifo.count == 0;
-    if empty {
-        if 63 <= wait {
-            return late_end(Effect::Nothing, site, task);
+impl Moving {
+    // The broken mark goes in before the first byte, so that a cut leaves the sector broken.
+    #[tactic(auto, unfolding(crate::specs::Write::await_of))]
+    pub fn await_byte(self, slot: u8, wait: u8) -> Step
+        ensures { result ≡ await_of slot wait self.site self.task self.head self.fifo }
+    {
+        if self.fifo.count == 0 {
+            if 63 <= wait {
+                return self.task.ends_late(None, self.site);
+            }
+            return self.moves(Stage::Awaiting(slot, wait + 1), None);
         }
-        return moves(
-            Stage::Awaiting(slot, wait + 1),
-            site,
-            task,
-            fifo,
-            Effect::Nothing,
-        );
+        let at = self.site.mark_place(self.head, slot);
+        let byte = self.task.written_mark(true);
+        self.moves(Stage::Storing(slot, 0), Some(Put { at, byte }))
     }
-    let at = mark_place(site, head, slot);
-    let byte = written_mark(true, task);
-    moves(
-        Stage::Storing(slot, 0),
-        site,
-        task,
-        fifo,
-        Effect::Store { at, byte },
-    )
-}
 
-#[tactic(auto, unfolding(crate::specs::Write::put_of))]
-fn put(byte: u8, slot: u8, done: u16, site: Site, task: Task, head: u8, fifo: Fifo) -> Step
-    requires { done < 1024 }
-    ensures { result ≡ put_of byte slot done site task head fifo }
-{
-    let at = data_place(site, head, slot, done);
-    moves(
-        Stage::Storing(slot, done + 1),
-        site,
-        task,
-        fifo,
-        Effect::Store { at, byte },
-    )
-}
-
-// A byte is due and the FIFO has none: zeros from here on, as after TC (000 4.2.5).
-#[tactic(auto, unfolding(crate::specs::Write::underrun))]
-fn run_under(slot: u8, done: u16, site: Site, task: Task, head: u8) -> Step
-    requires { done < 1024 }
-    ensures { result ≡ underrun slot done site task head }
-{
-    put(0x00, slot, done, site, tardy(task), head, Fifo::shut())
-}
-
-// No byte is there: zeros after TC.
-#[tactic(auto, using(crate::proofs::CondLaws::yes, crate::proofs::CondLaws::no), unfolding(crate::specs::Write::dry_of))]
-fn dry(slot: u8, done: u16, site: Site, task: Task, head: u8, fifo: Fifo) -> Step
-    requires { done < 1024 }
-    ensures { result ≡ dry_of slot done site task head fifo }
-{
-    if fifo.tc {
-        return put(0x00, slot, done, site, task, head, fifo);
+    #[tactic(auto, unfolding(crate::specs::Write::put_of))]
+    fn put(self, byte: u8, slot: u8, done: u16) -> Step
+        requires { done < 1024 }
+        ensures { result ≡ put_of byte slot done self.site self.task self.head self.fifo }
+    {
+        let at = self.site.data_place(self.head, slot, done);
+        self.moves(Stage::Storing(slot, done + 1), Some(Put { at, byte }))
     }
-    run_under(slot, done, site, task, head)
-}
 
-#[tactic(auto, using(crate::proofs::CondLaws::yes, crate::proofs::CondLaws::no), unfolding(crate::specs::Write::written_of))]
-fn written(slot: u8, site: Site, task: Task, head: u8, fifo: Fifo) -> Step
-    ensures { result ≡ written_of slot site task head fifo }
-{
-    let at = mark_place(site, head, slot);
-    let byte = written_mark(false, task);
-    if task.late {
-        return late_end(Effect::Store { at, byte }, site, task);
+    // A byte is due and the FIFO has none: zeros from here on, as after TC (000 4.2.5).
+    #[tactic(auto, unfolding(crate::specs::Write::underrun))]
+    fn run_under(self, slot: u8, done: u16) -> Step
+        requires { done < 1024 }
+        ensures { result ≡ underrun slot done self.site self.task self.head }
+    {
+        let late = Moving {
+            task: self.task.tardy(),
+            fifo: Fifo::shut(),
+            ..self
+        };
+        late.put(0x00, slot, done)
     }
-    let tc = fifo.tc & (fifo.count == 0);
-    follow(slot, tc, site, task, fifo, Effect::Store { at, byte })
-}
 
-#[tactic(auto, unfolding(crate::specs::Write::store_of))]
-pub fn store(
-    slot: u8,
-    done: u16,
-    site: Site,
-    task: Task,
-    head: u8,
-    fifo: Fifo,
-    efifo: bool,
-    fifothr: u8,
-) -> Step
-    ensures { result ≡ store_of slot done site task head fifo efifo fifothr }
-{
-    if sector_bytes(site) <= done as usize {
-        return written(slot, site, task, head, fifo);
+    // No byte is there: zeros after TC.
+    #[tactic(auto, unfolding(crate::specs::Write::dry_of))]
+    fn dry(self, slot: u8, done: u16) -> Step
+        requires { done < 1024 }
+        ensures { result ≡ dry_of slot done self.site self.task self.head self.fifo }
+    {
+        if self.fifo.tc {
+            return self.put(0x00, slot, done);
+        }
+        self.run_under(slot, done)
     }
-    let empty = fifo.count == 0;
-    if empty {
-        return dry(slot, done, site, task, head, fifo);
+
+    #[tactic(auto, unfolding(crate::specs::Write::written_of))]
+    fn written(self, slot: u8) -> Step
+        ensures { result ≡ written_of slot self.site self.task self.head self.fifo }
+    {
+        let at = self.site.mark_place(self.head, slot);
+        let byte = self.task.written_mark(false);
+        let effect = Some(Put { at, byte });
+        if self.task.late {
+            return self.task.ends_late(effect, self.site);
+        }
+        let tc = self.fifo.tc & (self.fifo.count == 0);
+        self.follow(slot, tc, effect)
     }
-    let byte = fifo.front();
-    put(
-        byte,
-        slot,
-        done,
-        site,
-        task,
-        head,
-        fifo.drawn(efifo, fifothr),
-    )
+
+    #[tactic(auto, unfolding(crate::specs::Write::store_of))]
+    pub fn store(self, slot: u8, done: u16) -> Step
+        ensures { result
+            ≡ store_of slot done self.site self.task self.head self.fifo self.set.efifo self.set.fifothr }
+    {
+        if self.site.sector_bytes() <= usize::from(done) {
+            return self.written(slot);
+        }
+        if self.fifo.count == 0 {
+            return self.dry(slot, done);
+        }
+        let byte = self.fifo.front();
+        let fifo = self.fifo.drawn(self.set);
+        Moving { fifo, ..self }.put(byte, slot, done)
+    }
 }

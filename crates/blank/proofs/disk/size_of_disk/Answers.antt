@@ -9,6 +9,6 @@ use Rattle.blank.proofs.disk.size_of_disk.Goals as goal
 pub overflow_cast-result : goal.overflow_cast-result
 overflow_cast-result c =
     let a = c.args in
-    let there = range_true a.cylinders a.heads a.slots a.n 0 (sym c.ranges-2.ensures ∙ c.if-ranges.true) in
-    let g : c.geometry_of-g.result ≡ geometry_of a.cylinders a.heads a.slots a.n 0 = c.geometry_of-g.ensures in
+    let there = range_true a.cylinders a.heads a.slots a.n 0 (sym c.in_range.ensures ∙ c.if-in_range.true) in
+    let g : c.geometry.result ≡ geometry_of a.cylinders a.heads a.slots a.n 0 = c.geometry.ensures in
     omega (arith, length_le _ there, c.length.ensures, ap length_of g)

@@ -1,17 +1,10 @@
 -- The ticks left, made from where the loop stands, end where all of them end from the start.
-use Rattle.std.proofs.Common.{◌≡◌, length}
+use Rattle.std.proofs.Common.{◌≡◌, ◌-◌}
 use Rattle.block.specs.Box.{box_of}
 use Rattle.block.specs.Serve.{reads_of}
 use Rattle.block.proofs.serve.read_sector.Given as goal
 
-abbrev pub invariant-loop-left : goal.invariant-loop-left
-invariant-loop-left l =
-    (length l.a ≡ length l.fn.a)
-    × (length l.b ≡ length l.fn.b)
-    × (length l.out ≡ length l.fn.out)
-    × (reads_of l.fn.budget (box_of l.fn.c l.fn.a l.fn.b) l.fn.out 0
-    ≡ reads_of l.left (box_of l.controller l.a l.b) l.out l.done)
-
--- the ticks left
-abbrev pub decreases-loop-left : goal.decreases-loop-left
-decreases-loop-left l = l.left
+abbrev pub invariant-loop : goal.invariant-loop
+invariant-loop l =
+    reads_of l.fn.budget (box_of l.fn.c l.fn.a l.fn.b) l.fn.out 0
+    ≡ reads_of (l.budget - l.counter) (box_of l.c l.a l.b) l.out l.done

@@ -1,16 +1,14 @@
 -- `block::serve::write_sector` meets its contract.
-use Rattle.block.proofs.BoxLaws.{came_parts}
+use Rattle.std.proofs.Common.{sym}
 use Rattle.block.proofs.ServeLaws.{write_came}
 use Rattle.block.proofs.serve.write_sector.Goals as goal
 
 -- INT
 pub returns-then-answer : goal.returns-then-answer
 returns-then-answer c =
-    let loop = c.loop-left in
+    let loop = c.loop in
     let tick = c.tick-answer in
-    let parts =
-    came_parts
-    (write_came loop.controller tick.result loop.a loop.b tick.new.a tick.new.b tick.ensures.answer
-    tick.ensures.first tick.ensures.second loop.left c.args.bytes.now loop.done _ loop.invariant.2
-    c.loop-left-test.true c.if-answer.true) in
-    record { came = parts.0; controller = parts.1.0; first = parts.1.1.0; second = parts.1.1.1 }
+    sym
+    (write_came loop.c tick.result loop.a loop.b tick.new.a tick.new.b tick.ensures.answer tick.ensures.first
+    tick.ensures.second c.args.budget loop.counter c.loop-test.true c.args.bytes.now loop.done _ loop.invariant
+    c.if-answer.true)

@@ -7,4 +7,4 @@ use Rattle.chip.proofs.codes.line_at.Goals as goal
 
 pub returns : goal.returns
 unfolding kind_of
-returns c = at (λ n. table_line (kind_of n)) 256 c.args.code (search rules)
+returns c = rw c.from.ensures (at (λ n. table_line (kind_of n)) 256 c.args.code (search rules))

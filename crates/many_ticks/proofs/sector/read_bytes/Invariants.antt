@@ -6,8 +6,5 @@ use Rattle.many_ticks.proofs.sector.read_bytes.Given as goal
 
 abbrev pub invariant-loop-left : goal.invariant-loop-left
 invariant-loop-left l =
-    reads_of l.site l.task l.head l.slot l.s l.efifo l.fifothr l.asks l.n l.from l.fn.f
-    ≡ reads_of l.site l.task l.head l.slot l.s l.efifo l.fifothr l.asks l.left l.done l.fifo
-
-abbrev pub decreases-loop-left : goal.decreases-loop-left
-decreases-loop-left l = l.left
+    reads_of l.site l.task l.head l.slot l.s l.set.efifo l.set.fifothr l.f.asks l.n l.from l.f
+    ≡ reads_of l.site l.task l.head l.slot l.s l.set.efifo l.set.fifothr l.f.asks l.left l.done l.fifo

@@ -4,14 +4,4 @@ use Rattle.pack.proofs.cycle.drives_still.Goals as goal
 
 pub returns : goal.returns
 unfolding drives_still
-returns c =
-    rw (
-      c.still-4.ensures,
-      c.row_at-4.ensures,
-      c.still-3.ensures,
-      c.row_at-3.ensures,
-      c.still-2.ensures,
-      c.row_at-2.ensures,
-      c.still.ensures,
-      c.row_at.ensures,
-    )
+returns c = rw (c.still-4.ensures, c.still-3.ensures, c.still-2.ensures, c.still.ensures, c.drive_rows.ensures)

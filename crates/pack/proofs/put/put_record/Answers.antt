@@ -1,5 +1,5 @@
 -- The rows written one after another are the record's bytes.
-use Rattle.pack.proofs.PutLaws.{record_put}
+use Rattle.pack.proofs.PutLaws.{record_filled}
 use Rattle.pack.proofs.put.put_record.Goals as goal
 
 pub returns-clause-stored : goal.returns-clause-stored
@@ -10,6 +10,6 @@ returns-clause-stored c =
       c.put_fifo.ensures.stored,
       c.put_drives.ensures.stored,
       c.put_row.ensures,
-      c.registers_row-row.ensures,
-      c.phase_flat-flat.ensures,
-    ) (record_put c.args.c c.args.s.now c.requires)
+      c.registers_row.ensures,
+      c.from.ensures,
+    ) (record_filled c.args.c c.args.r.now c.told-r)

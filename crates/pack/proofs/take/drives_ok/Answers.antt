@@ -4,14 +4,4 @@ use Rattle.pack.proofs.take.drives_ok.Goals as goal
 
 pub returns : goal.returns
 unfolding drives_ok
-returns c =
-    rw (
-      c.drive_ok-4.ensures,
-      c.row_at-4.ensures,
-      c.drive_ok-3.ensures,
-      c.row_at-3.ensures,
-      c.drive_ok-2.ensures,
-      c.row_at-2.ensures,
-      c.drive_ok.ensures,
-      c.row_at.ensures,
-    )
+returns c = rw (c.drive_ok-4.ensures, c.drive_ok-3.ensures, c.drive_ok-2.ensures, c.drive_ok.ensures, c.drive_rows.ensures)
