@@ -18,7 +18,7 @@ use Rattle.block.specs.declared.request.Refusal.TheVariants.{DamagedRecord, NoSu
 use Rattle.block.specs.declared.request.Reply.TheVariants.{Refused}
 use Rattle.block.specs.Box.{Box}
 use Rattle.block.specs.Place.{blocks_of}
-use Rattle.block.specs.Request.{read_with, read_in, read_block, written_with, write_in, write_block}
+use Rattle.block.specs.Request.{number_of, read_with, read_in, read_block, written_with, write_in, write_block}
 use Rattle.block_demands.specs.Asked.{image_of}
 use Rattle.block_demands.specs.BlockIsCalls.{BlockIsCalls}
 use Rattle.block_demands.specs.BlockRefusals.{
@@ -112,20 +112,20 @@ module _ (drive block : ℕ) (s : Box) (slice : List ℕ) where
   write_2 v o =
       rw (v, o.disk, lt-leb (blocks_of o.g) block o.within, ne_eqb (length slice) (size_of o.g.n) o.other)
 
-  reads : (r : Refusal) → Earns drive block s slice r
-      → read_block drive block s slice ≡ read_with (Refused r) s slice
-  reads r (damaged v) = read_4 v
-  reads r (no_block v x) = read_1 v x
-  reads r (other_size v low o) = read_2 v o
+  reads : (n : ℕ) → Earns drive block s slice n
+      → (r : Refusal) × ((number_of r ≡ n) × (read_block drive block s slice ≡ read_with (Refused r) s slice))
+  reads n (damaged v) = (DamagedRecord, (refl, read_4 v))
+  reads n (no_block v x) = (NoSuchBlock, (refl, read_1 v x))
+  reads n (other_size v low o) = (WrongSize, (refl, read_2 v o))
 
-  writes : (r : Refusal) → Earns drive block s slice r
-      → write_block drive block s slice ≡ written_with (Refused r) s
-  writes r (damaged v) = write_4 v
-  writes r (no_block v x) = write_1 v x
-  writes r (other_size v low o) = write_2 v o
+  writes : (n : ℕ) → Earns drive block s slice n
+      → (r : Refusal) × ((number_of r ≡ n) × (write_block drive block s slice ≡ written_with (Refused r) s))
+  writes n (damaged v) = (DamagedRecord, (refl, write_4 v))
+  writes n (no_block v x) = (NoSuchBlock, (refl, write_1 v x))
+  writes n (other_size v low o) = (WrongSize, (refl, write_2 v o))
 
 pub block_refusals : BlockRefusals
 block_refusals = record {
-  read = λ drive block s out r x. reads drive block s out r x;
-  write = λ drive block s bytes r x. writes drive block s bytes r x;
+  read = λ drive block s out n x. reads drive block s out n x;
+  write = λ drive block s bytes n x. writes drive block s bytes n x;
 }

@@ -9,11 +9,10 @@ use Rattle.image.specs.Layout.{size_of}
 use Rattle.fdc.specs.Record.{valid_of}
 use Rattle.block.specs.declared.request.Ending.{Ending}
 use Rattle.block.specs.declared.request.Refusal.{Refusal}
-use Rattle.block.specs.declared.request.Refusal.TheVariants.{DamagedRecord, NoSuchBlock, WrongSize}
 use Rattle.block.specs.declared.request.Reply.TheVariants.{Refused, Ended}
 use Rattle.block.specs.Box.{Box}
 use Rattle.block.specs.Place.{blocks_of}
-use Rattle.block.specs.Request.{read_with, read_block, written_with, write_block}
+use Rattle.block.specs.Request.{number_of, read_with, read_block, written_with, write_block}
 use Rattle.block_demands.specs.Asked.{image_of, Asked}
 
 -- no such block: a drive above 1; an image whose header or length does not fit, the motor on or not; a block past the
@@ -30,18 +29,18 @@ pub record OtherSize (drive block : ℕ) (s : Box) (slice : List ℕ) : Type 0 w
   pub within : block < blocks_of g
   pub other : length slice ≡ size_of g.n → ⊥
 
--- which refusal a request earns, if any; `number_of` (block/specs/Request) has their numbers
-pub data Earns (drive block : ℕ) (s : Box) (slice : List ℕ) : Refusal → Type 0 where
-  damaged : valid_of s.controller ≡ false → Earns drive block s slice DamagedRecord
-  no_block : valid_of s.controller ≡ true → NoBlock drive block s → Earns drive block s slice NoSuchBlock
-  other_size : valid_of s.controller ≡ true → drive < 2 → OtherSize drive block s slice → Earns drive block s slice WrongSize
+-- which refusal a request earns, if any
+pub data Earns (drive block : ℕ) (s : Box) (slice : List ℕ) : ℕ → Type 0 where
+  damaged : valid_of s.controller ≡ false → Earns drive block s slice 4
+  no_block : valid_of s.controller ≡ true → NoBlock drive block s → Earns drive block s slice 1
+  other_size : valid_of s.controller ≡ true → drive < 2 → OtherSize drive block s slice → Earns drive block s slice 2
 
--- an earned refusal is the reply, and everything else is as it was handed in
+-- the refusal of an earned number is the reply, and everything else is as it was handed in
 pub record BlockRefusals : Type 0 where
-  pub read : (drive block : ℕ) (s : Box) (out : List ℕ) (r : Refusal) → Earns drive block s out r
-      → read_block drive block s out ≡ read_with (Refused r) s out
-  pub write : (drive block : ℕ) (s : Box) (bytes : List ℕ) (r : Refusal) → Earns drive block s bytes r
-      → write_block drive block s bytes ≡ written_with (Refused r) s
+  pub read : (drive block : ℕ) (s : Box) (out : List ℕ) (n : ℕ) → Earns drive block s out n
+      → (r : Refusal) × ((number_of r ≡ n) × (read_block drive block s out ≡ read_with (Refused r) s out))
+  pub write : (drive block : ℕ) (s : Box) (bytes : List ℕ) (n : ℕ) → Earns drive block s bytes n
+      → (r : Refusal) × ((number_of r ≡ n) × (write_block drive block s bytes ≡ written_with (Refused r) s))
 
 -- every wait of the service ends within its budget, from any valid record, on any image that fits: so the reply is
 -- neither a refusal nor that a budget ran out
