@@ -3,8 +3,8 @@
 // and nothing else.
 #![tactic(auto)]
 
-mod head;
+pub mod head;
 pub mod place;
-mod ready;
+pub mod ready;
 pub mod request;
 pub mod serve;

@@ -45,16 +45,13 @@ pub fn asked(rt: &impl Env) -> Option<Command> {
     command_in(argument(rt, 1, &mut word)).filter(|command| command.words() == argument_count(rt))
 }
 
-const USAGE: &[u8] = b"usage: blocks new IMAGE CYLINDERS HEADS SECTORS N
-       blocks count IMAGE
-       blocks read IMAGE BLOCK
-       blocks write IMAGE BLOCK
-       blocks export IMAGE
-       blocks import IMAGE
-";
-
 pub fn usage(err: &impl Print) {
-    fault(err, USAGE);
+    fault(err, b"usage: blocks new IMAGE CYLINDERS HEADS SECTORS N\n");
+    fault(err, b"       blocks count IMAGE\n");
+    fault(err, b"       blocks read IMAGE BLOCK\n");
+    fault(err, b"       blocks write IMAGE BLOCK\n");
+    fault(err, b"       blocks export IMAGE\n");
+    fault(err, b"       blocks import IMAGE\n");
 }
 
 // The number that an argument says; what is none is named.

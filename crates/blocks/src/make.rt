@@ -38,13 +38,17 @@ fn create<R: Files>(rt: &R, name: &str) -> io::Result<R::File> {
         .open(rt, name)
 }
 
-// All of it, or no file.
-fn put(rt: &impl Files, path: &[u8], image: &[u8]) -> Result<(), FileError> {
+// All of it, or no file: one that did not take it is named, and then taken away.
+fn put<R: Files, E: Print>(
+    program: &Program<'_, R, E>,
+    path: &[u8],
+    image: &[u8],
+) -> Result<(), FileError> {
     let name = str::from_utf8(path)?;
-    let mut file = create(rt, name)?;
+    let mut file = create(program.rt, name)?;
     if file.write_all(image).is_err() {
-        let _gone = fs::remove_file(rt, name);
-        return Err(FileError::Unwritten);
+        program.file_fault(path, FileError::Unwritten);
+        let _gone = fs::remove_file(program.rt, name);
     }
     Ok(())
 }
@@ -53,7 +57,7 @@ fn put_named<R: Files + Env, E: Print>(program: &Program<'_, R, E>, image: &[u8]
     let mut path = [0u8; PATH];
     match program.rt.arg(2, &mut path) {
         Ok(n) => {
-            if let Err(why) = put(program.rt, &path[..n], image) {
+            if let Err(why) = put(program, &path[..n], image) {
                 program.file_fault(&path[..n], why);
             }
         }

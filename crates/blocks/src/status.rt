@@ -3,7 +3,9 @@ ghost use Rattle.std.specs.Prelude.{◌≡◌};
 ghost use Rattle.blocks.specs.Status.{bad_in, fault_of};
 
 use block::request::{Ending, Reply};
-use std::{fmt, io};
+use files::fault::fault;
+use log_lines::hex::letter;
+use std::fmt;
 
 // Why a block is bad.
 #[derive(Clone, Copy, Debug, PartialEq, Eq)]
@@ -62,30 +64,51 @@ fn fault_of(st1: u8, st2: u8) -> Fault
     Fault::Other
 }
 
-fn ended(err: &impl Print, block: u32, ending: Ending) -> io::Result<()> {
-    let Ending { st0, st1, st2, .. } = ending;
-    if bad(st0) {
-        let why = fault_of(st1, st2);
-        println!(err; "blocks: block {block}: {why} (ST0 {st0:02X} ST1 {st1:02X} ST2 {st2:02X})")?;
-    }
-    Ok(())
+// A bad block by its number. Of a line each part is tried, whatever became of the one before.
+fn name_block(err: &impl Print, block: u32) {
+    fault(err, b"blocks: block ");
+    let _written = err.print(block);
+    fault(err, b": ");
 }
 
-fn refused(err: &impl Print, block: u32, number: u8) -> io::Result<()> {
-    println!(err; "blocks: block {block}: refused, {number:02X}")
+fn say_byte(err: &impl Print, byte: u8) {
+    fault(err, &[letter(byte / 16), letter(byte)]);
+}
+
+fn ended(err: &impl Print, block: u32, ending: Ending) {
+    let Ending { st0, st1, st2, .. } = ending;
+    if bad(st0) {
+        name_block(err, block);
+        let _written = err.print(fault_of(st1, st2));
+        fault(err, b" (ST0 ");
+        say_byte(err, st0);
+        fault(err, b" ST1 ");
+        say_byte(err, st1);
+        fault(err, b" ST2 ");
+        say_byte(err, st2);
+        fault(err, b")\n");
+    }
+}
+
+fn refused(err: &impl Print, block: u32, number: u8) {
+    name_block(err, block);
+    fault(err, b"refused, ");
+    say_byte(err, number);
+    fault(err, b"\n");
 }
 
 // A block that is one is not spoken of. The service refuses none that is asked for here, and its waits do not run out.
 pub fn named(err: &impl Print, block: u32, reply: Reply) {
-    let _written = match reply {
+    match reply {
         Reply::Ended(ending) | Reply::RanOut(ending) => ended(err, block, ending),
         Reply::Refused(refusal) => refused(err, block, u8::from(refusal)),
-    };
+    }
 }
 
 // The whole line for a block that is not there.
 pub fn past_end(err: &impl Print, block: u32, count: u32) {
-    let _written = println!(err;
-        "blocks: block {block}: past the end, the image has {count} blocks"
-    );
+    name_block(err, block);
+    fault(err, b"past the end, the image has ");
+    let _written = err.print(count);
+    fault(err, b" blocks\n");
 }

@@ -2,7 +2,7 @@
 use crate::serve::{read_from, write_from};
 use crate::status::past_end;
 use block::place::{blocks_in, bytes_in};
-use files::fault::FileError;
+use files::fault::{FileError, fault};
 use files::load::load;
 use files::program::Program;
 use std::env::Env;
@@ -32,8 +32,9 @@ fn input<R: Input, E: Print>(program: &Program<'_, R, E>, bytes: &mut [u8]) -> b
     match load(&mut program.rt.reader(), bytes) {
         Ok(length) if length == wanted => true,
         Ok(_) | Err(FileError::Larger) => {
-            let err = program.err;
-            let _written = println!(err; "blocks: standard input: expected exactly {wanted} bytes");
+            fault(program.err, b"blocks: standard input: expected exactly ");
+            let _written = program.err.print(wanted);
+            fault(program.err, b" bytes\n");
             false
         }
         Err(why) => {

@@ -11,9 +11,24 @@ use borrow.Author.Tests.{ltb-true, ltb-false, eq-eqb, ne_eqb, lt-leb}
 use Rattle.drive.specs.declared.Drive.{Drive}
 use Rattle.drive.specs.declared.Motion.{Motion}
 use Rattle.drive.specs.declared.Motion.TheVariants.{Seeking, Recalibrating}
+use Rattle.drive.specs.declared.Course.TheVariants.{To, Out}
+use Rattle.drive.specs.Course.{course_step}
 use Rattle.drive.specs.Drive.{distance, first_wait, recalibrate_steps, accepted, seek_of, recalibrate_of}
 use Rattle.drive.specs.Due.{head_after, due_of, Goes, SeekDue, Recalibrates, MotionOver, recalibrate_report, over_after}
-use Rattle.drive.specs.Step.{stepped, moving, sought, recalibrated, on_step, on_tick, seek_tick, recalibrate_tick, tick_in, tick_drive}
+use Rattle.drive.specs.Step.{
+  stepped,
+  moving,
+  sought,
+  recalibrated,
+  on_step,
+  on_tick,
+  seek_step,
+  seek_tick,
+  recalibrate_step,
+  recalibrate_tick,
+  tick_in,
+  tick_drive,
+}
 
 -- what a step leaves of a drive but its head and change flag
 abbrev Arrives : (Drive → Drive) → ℕ → ℕ → Drive → Type 0
@@ -200,3 +215,16 @@ head_out number (suc n) head h =
   where
     less : (n head : ℕ) → head - 1 - n ≡ head - suc n
     less n head = omega arith
+
+-- a step of the course of a Seek is a Seek's, and of that of a Recalibrate a Recalibrate's
+pub course_seeks :
+    (number : ℕ) (mounted : Bool) (ticks target steps : ℕ) (d : Drive)
+    → course_step (To target) number mounted ticks steps d ≡ seek_step number mounted ticks target steps d
+unfolding seek_step
+course_seeks number mounted ticks target steps d = refl
+
+pub course_recalibrates :
+    (number : ℕ) (mounted : Bool) (ticks steps : ℕ) (d : Drive)
+    → course_step Out number mounted ticks steps d ≡ recalibrate_step number mounted ticks steps d
+unfolding recalibrate_step
+course_recalibrates number mounted ticks steps d = refl

@@ -189,9 +189,10 @@ impl Drive {
     pub fn sensed(self) -> Drive
         ensures { result ≡ sensed_drive self }
     {
+        let busy = false;
         Drive {
             report: 0,
-            busy: false,
+            busy,
             ..self
         }
     }

@@ -74,8 +74,7 @@ impl Geometry {
         self.track(cylinder, side) + 5 + self.slots_length(slot)
     }
 
-    // Whether two headers say the same in all five. No code calls it: it holds the derived equality to `same_of`, by which
-    // the statements speak of another disk.
+    // Whether two headers say the same in all five.
     #[tactic(auto, unfolding(crate::specs::Layout::same_of))]
     pub fn same(self, g: Geometry) -> bool
         ensures { result ≡ same_of self g }

@@ -65,8 +65,8 @@ impl Track<'_> {
         None
     }
 
-    // The first slot that has the address of an earlier one. A group is passed once, with at most S looks, and no pass
-    // goes on where an earlier double is known.
+    // The first slot that has the address of an earlier one. A group is passed once, with at most S looks, and neither a
+    // pass nor the look over all goes on where an earlier double is known.
     pub fn first_double(self) -> Option<u8>
         ensures first { First (twice_at (slots_of self.entry)) self.entry.g.slots (unwrap_or result self.entry.g.slots) }
         ensures within { IfSome result (λ k. k < self.entry.g.slots) }
@@ -75,6 +75,9 @@ impl Track<'_> {
         let mut double = None;
         for k in 0..self.g.slots {
             let end = double.unwrap_or(self.g.slots);
+            if end <= k {
+                break;
+            }
             if has_address(self.slot(k).mark) && !done[usize::from(k)] {
                 double = self.pass(k, end, &mut done).or(double);
             }

@@ -1,5 +1,5 @@
 // The words of a line, by their places in a slice: a word ends at a space, a tab or the slice's end.
-ghost use Rattle.std.specs.Prelude.{◌≡◌, ◌≤◌, ◌+◌, ◌-◌, length, take_while, get_or, drop};
+ghost use Rattle.std.specs.Prelude.{◌≡◌, ◌≤◌, ◌+◌, length, take_while, get_or, drop};
 ghost use Rattle.std.specs.Bool.{beq};
 ghost use Rattle.log_lines.specs.Words.{is_blank, run, word_length, word_from, letter_in, says_nothing, over};
 
@@ -26,23 +26,30 @@ pub fn is_blank(byte: u8) -> bool
     matches!(byte, b' ' | b'\t')
 }
 
-// How many blanks stand from a place on, or how many other bytes. A flag and no closure: `run` has it so.
-fn taken(s: &[u8], at: usize, blank: bool) -> usize
-    ensures value { result ≡ length (take_while (λ b. beq (is_blank b) blank) (drop at s.now)) }
-    ensures upper_bound { result ≤ length s.now - at }
+// With how many blanks a slice begins, or with how many other bytes. A flag and no closure: `run` has it so.
+fn taken(s: &[u8], blank: bool) -> usize
+    ensures value { result ≡ length (take_while (λ b. beq (is_blank b) blank) s.now) }
+    ensures upper_bound { result ≤ length s.now }
 {
     s.iter()
-        .skip(at)
         .take_while(|byte| is_blank(**byte) == blank)
         .count()
 }
 
-// Where they end.
 #[tactic(auto, using(crate::proofs::WordLaws::run_taken))]
+fn run(s: &[u8], blank: bool) -> usize
+    ensures value { result ≡ run blank s.now }
+    ensures upper_bound { result ≤ length s.now }
+{
+    taken(s, blank)
+}
+
+// Where those that stand from a place on end. The slice is cut there, so that its bytes before it are not passed again.
+#[tactic(auto, using(std::proofs::lemmas::List::drop_min))]
 fn skip(s: &[u8], at: usize, blank: bool) -> usize
     ensures { result ≡ at + run blank (drop at s.now) }
 {
-    at + taken(s, at, blank)
+    at + run(&s[at.min(s.len())..], blank)
 }
 
 // The first word from a place on.

@@ -6,6 +6,7 @@
 use fdc::answer::{Answer, Reply};
 use fdc::record::Controller;
 use log_lines::gather::Gathered;
+use log_lines::hex::letter;
 use log_lines::line::Line;
 use std::io::Read;
 use std::{fmt, io};
@@ -19,8 +20,14 @@ impl fmt::Display for Value {
     fn fmt<W: fmt::Write>(&self, f: &mut fmt::Formatter<W>) -> fmt::Result {
         match self.0 {
             Reply::Done => f.write_str("--"),
-            Reply::Byte(value) => write!(f, "{value:02X}"),
-            Reply::Refused(refusal) => write!(f, "R{:X}", u8::from(refusal)),
+            Reply::Byte(value) => {
+                f.write_char(char::from(letter(value / 16)))?;
+                f.write_char(char::from(letter(value)))
+            }
+            Reply::Refused(refusal) => {
+                f.write_str("R")?;
+                f.write_char(char::from(letter(u8::from(refusal))))
+            }
         }
     }
 }

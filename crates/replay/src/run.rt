@@ -3,6 +3,7 @@ use crate::input::Lines;
 use crate::output::Output;
 use fdc::answer::Answer;
 use fdc::record::Controller;
+use files::fault::fault;
 use player::shown::{answer_text, differs, mark_text, refused};
 use player::turn::called;
 use script::line::{Expected, Line, gathered_line};
@@ -10,11 +11,13 @@ use script::tally::Tally;
 use std::io;
 use std::io::Read;
 
-// What cannot be written there is lost.
+// What cannot be written there is lost; each part is tried, whatever became of the one before.
 fn print_expected(err: &impl Print, line: u64, what: Expected) {
-    let _written = println!(err;
-        "replay: line {line}: expected {what}; nothing after it is played"
-    );
+    fault(err, b"replay: line ");
+    let _written = err.print(line);
+    fault(err, b": expected ");
+    let _written = err.print(what);
+    fault(err, b"; nothing after it is played\n");
 }
 
 // The box, and what was counted.

@@ -23,11 +23,11 @@ pub fn has_track(g: Geometry, head: u8, side: u8) -> bool
 }
 
 // Whether the disk is the one met in the first tick.
-#[tactic(auto, unfolding(crate::specs::Track::stays_of, image::specs::Layout::same_of))]
+#[tactic(auto, unfolding(crate::specs::Track::stays_of))]
 pub fn stays(disk: Option<Geometry>, met: Geometry) -> bool
     ensures { result ≡ stays_of disk met }
 {
-    disk == Some(met)
+    disk.is_some_and(|g| g.same(met))
 }
 
 impl Site {

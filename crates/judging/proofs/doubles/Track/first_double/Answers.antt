@@ -33,5 +33,10 @@ loop-k-preserved c =
           )
     ]
 
-pub returns-clause-first : goal.returns-clause-first
-returns-clause-first c = look_ends _ _ _ c.loop-k.k _ c.loop-k.invariant.0 (omega (arith, c.loop-k.invariant.0.bounded))
+pub returns-then-end-k-clause-first : goal.returns-then-end-k-clause-first
+returns-then-end-k-clause-first c =
+    look_ends _ _ _ c.loop-k.k _ c.loop-k.invariant.0 (rw c.unwrap_or-end.ensures at c.if-end-k.true)
+
+pub returns-after-loop-k-clause-first : goal.returns-after-loop-k-clause-first
+returns-after-loop-k-clause-first c =
+    look_ends _ _ _ c.loop-k.k _ c.loop-k.invariant.0 (omega (arith, c.loop-k.invariant.0.bounded))
