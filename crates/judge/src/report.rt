@@ -9,19 +9,32 @@ use judging::place::{Place, place_of};
 use std::env::Env;
 use std::io;
 
-// Piece by piece and no Display: a piece looks into the image, so that each would need a type that holds the image lent.
+// A word and the number behind it, each handed to standard output by itself. Piece by piece and no Display: a piece looks
+// into the image, so that each would need a type that holds the image lent.
+fn say(rt: &impl Print, text: &[u8], n: usize) -> io::Result<()> {
+    rt.write_all(text)?;
+    rt.print(n)
+}
+
+fn say_track(rt: &impl Print, track: Track) -> io::Result<()> {
+    say(rt, b": cylinder ", usize::from(track.cylinder))?;
+    say(rt, b" side ", usize::from(track.side))
+}
+
 fn say_slot(rt: &impl Print, track: Track, k: u8) -> io::Result<()> {
-    let cylinder = track.cylinder;
-    let side = track.side;
-    print!(rt; ": cylinder {cylinder} side {side} slot {k}")
+    say_track(rt, track)?;
+    say(rt, b" slot ", usize::from(k))
 }
 
 fn say_twice(rt: &impl Print, track: Track, k: u8) -> io::Result<()> {
     let Id { c, h, r, n } = track.slot(k).id;
     say_slot(rt, track, k)?;
-    print!(rt; ", C {c} H {h} R {r} N {n}")?;
+    say(rt, b", C ", usize::from(c))?;
+    say(rt, b" H ", usize::from(h))?;
+    say(rt, b" R ", usize::from(r))?;
+    say(rt, b" N ", usize::from(n))?;
     if let Some(first) = track.first_same(k) {
-        print!(rt; ", first in slot {first}")?;
+        say(rt, b", first in slot ", usize::from(first))?;
     }
     Ok(())
 }
@@ -29,13 +42,14 @@ fn say_twice(rt: &impl Print, track: Track, k: u8) -> io::Result<()> {
 fn say_mark(rt: &impl Print, track: Track, k: u8) -> io::Result<()> {
     let mark = track.slot(k).mark;
     say_slot(rt, track, k)?;
-    print!(rt; ", mark {mark}")
+    say(rt, b", mark ", usize::from(mark))
 }
 
 // A header or a length that is wrong is that of no disk: such a fault has no place.
 fn say_fault(rt: &impl Print, s: &[u8], f: Fault) -> io::Result<()> {
     let Fault { kind, at } = f;
-    print!(rt; "{kind} at {at}")?;
+    rt.print(kind)?;
+    say(rt, b" at ", at)?;
     let Some(g) = disk_in(s) else {
         return Ok(());
     };
@@ -52,7 +66,7 @@ fn say_fault(rt: &impl Print, s: &[u8], f: Fault) -> io::Result<()> {
     };
     match kind {
         Kind::Header | Kind::Length | Kind::End => Ok(()),
-        Kind::Track | Kind::Place => print!(rt; ": cylinder {cylinder} side {side}"),
+        Kind::Track | Kind::Place => say_track(rt, track),
         Kind::Mark => say_mark(rt, track, slot),
         Kind::Twice => say_twice(rt, track, slot),
     }

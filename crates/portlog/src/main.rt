@@ -8,28 +8,27 @@ use fdc::record::Controller;
 use log_lines::gather::Gathered;
 use log_lines::hex::letter;
 use log_lines::line::Line;
+use std::io;
 use std::io::Read;
-use std::{fmt, io};
 
-// What a call answered, as it is printed. `answer_text` of `player` says the same bytes, but `player` stands on
-// `script`, a larger language of logs, of which nothing else is used here.
-#[derive(Clone, Copy)]
-struct Value(Reply);
-
-impl fmt::Display for Value {
-    fn fmt<W: fmt::Write>(&self, f: &mut fmt::Formatter<W>) -> fmt::Result {
-        match self.0 {
-            Reply::Done => f.write_str("--"),
-            Reply::Byte(value) => {
-                f.write_char(char::from(letter(value / 16)))?;
-                f.write_char(char::from(letter(value)))
-            }
-            Reply::Refused(refusal) => {
-                f.write_str("R")?;
-                f.write_char(char::from(letter(u8::from(refusal))))
-            }
+// What a call answered. `answer_text` of `player` says the same bytes, but `player` stands on `script`, a larger
+// language of logs, of which nothing else is used here. Each part of a line is handed to standard output by itself.
+fn print_value(rt: &impl Print, reply: Reply) -> io::Result<()> {
+    match reply {
+        Reply::Done => rt.write_all(b"--"),
+        Reply::Byte(value) => {
+            rt.write_all(&[letter(value / 16)])?;
+            rt.write_all(&[letter(value)])
+        }
+        Reply::Refused(refusal) => {
+            rt.write_all(b"R")?;
+            rt.write_all(&[letter(u8::from(refusal))])
         }
     }
+}
+
+fn print_flag(rt: &impl Print, on: bool) -> io::Result<()> {
+    rt.write_all(&[b' ', b'0' + u8::from(on)])
 }
 
 // The box, the line that is being read and how many were read before it.
@@ -53,10 +52,11 @@ impl Run {
     fn answered(&mut self, rt: &impl Print, answer: Answer) -> io::Result<()> {
         self.controller = answer.controller;
         let line = self.lines;
-        let value = Value(answer.reply);
-        let int = u8::from(answer.int);
-        let drq = u8::from(answer.drq);
-        println!(rt; "{line} {value} {int} {drq}")
+        print!(rt; "{line} ")?;
+        print_value(rt, answer.reply)?;
+        print_flag(rt, answer.int)?;
+        print_flag(rt, answer.drq)?;
+        rt.write_all(b"\n")
     }
 
     // The line's end was met. The count of lines wraps: no input is long enough to show it.
@@ -72,7 +72,10 @@ impl Run {
             }
             Err(what) => {
                 let line = self.lines;
-                println!(rt; "{line} expected {what}")
+                print!(rt; "{line} ")?;
+                rt.write_all(b"expected ")?;
+                rt.print(what)?;
+                rt.write_all(b"\n")
             }
         }
     }

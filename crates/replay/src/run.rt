@@ -87,7 +87,12 @@ pub fn play_lines<P: Print>(
         }
     }
     if run.tally.recorded {
-        out.show(run.tally);
+        out.text(b"calls ");
+        out.show(run.tally.calls);
+        out.text(b" refusals ");
+        out.show(run.tally.refusals);
+        out.text(b" differences ");
+        out.show(run.tally.differences);
         out.text(b"\n");
     }
     lines.end().unwrap_or(Ok(()))
